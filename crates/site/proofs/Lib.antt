@@ -1,0 +1,6 @@
+pub mod Opening
+pub mod Reading
+mod Drafting
+mod Limiting
+mod Telling
+mod SiteReading

@@ -1,0 +1,6 @@
+pub mod Changes
+pub mod Reports
+pub mod Files
+pub mod SiteFile
+pub mod Drafts
+pub mod Saying

@@ -1,0 +1,4 @@
+pub mod Limits
+pub mod Task
+pub mod Tables
+pub mod Meaning
