@@ -17,6 +17,7 @@ use Rattle.task.specs.Limits.{factorLimit, factLimit, labelLimit}
 use Rattle.task.specs.Tables.{part, row, entry, goals, leadsTo, nowhere, targets}
 use Rattle.site.specs.Changes.{put}
 use Rattle.site.specs.SiteFile.{Described, nothing, some, leads, adds}
+use Rattle.site.proofs.Changing.{getD-either, put-at, put-off, set-keeps, set-puts}
 use Rattle.site.specs.Drafts.{described, priceOf, unpriced}
 use Rattle.site.specs.declared.command.Command.the-variants.{Goal}
 use Rattle.task.specs.declared.row.Row.{Row}
@@ -32,12 +33,6 @@ some-at p (suc n) k h e = elim (cases-lt k n) [
 
 pub some-more : (p : ℕ → Bool) (n : ℕ) → some p n ≡ false → p n ≡ false → some p (n + 1) ≡ false
 some-more p n a b = rw add-one (or-from _ _ a b)
-
--- what holds of a list's one value and of the default holds at each place
-pub getD-either : {A : Type 0} (P : A → Type 0) (n i : ℕ) (a d : A) → P a → P d → P (getD (replicate n a) i d)
-getD-either P zero i a d pa pd = pd
-getD-either P (suc n) zero a d pa pd = pa
-getD-either P (suc n) (suc i) a d pa pd = getD-either P n i a d pa pd
 
 abbrev no-row : Row
 no-row = record { goal = false; next = replicate (labelLimit + 1) nowhere }
@@ -98,30 +93,6 @@ same t u a b c p q g s m i = record {
   cost = λ l. s l i;
   moves = λ j l x. m j l x i;
 }
-
-pub put-at : {A : Type 0} (i : ℕ) (v : A) (f : ℕ → A) (k : ℕ) → k ≡ i → put i v f k ≡ v
-put-at i v f k e = cond-true _ _ _ (eq-eqb k i e)
-
-pub put-off : {A : Type 0} (i : ℕ) (v : A) (f : ℕ → A) (k : ℕ) → (k ≡ i → ⊥) → put i v f k ≡ f k
-put-off i v f k ne = cond-false _ _ _ (ne-eqb k i ne)
-
--- a write that keeps what f reads
-pub set-keeps : {A B : Type 0} (f : A → B) (xs : List A) (i : ℕ) (v d : A) → f v ≡ f (getD xs i d) → (k : ℕ) → f (getD (set xs i v) k d) ≡ f (getD xs k d)
-set-keeps f xs i v d e k = elim (cases-eq k i) [
-  | inl s ↦ elim (cases-lt i (length xs)) [
-    | inl h ↦ rw (s, getD-set-same xs i v d h) e
-    | inr h ↦ ap (λ ys. f (getD ys k d)) (set-past xs i v h)
-  ]
-  | inr ne ↦ ap f (getD-set-other xs i k v d ne)
-]
-
--- a write after which f reads b at i
-pub set-puts : {A B : Type 0} (f : A → B) (xs : List A) (i : ℕ) (v d : A) (b : B) → i < length xs → f v ≡ b
-    → (k : ℕ) → f (getD (set xs i v) k d) ≡ put i b (λ n. f (getD xs n d)) k
-set-puts f xs i v d b h e k = elim (cases-eq k i) [
-  | inl s ↦ (rw (s, getD-set-same xs i v d h) e) ∙ sym (put-at i b (λ n. f (getD xs n d)) k s)
-  | inr ne ↦ ap f (getD-set-other xs i k v d ne) ∙ sym (put-off i b (λ n. f (getD xs n d)) k ne)
-]
 
 abbrev pub with-part : Draft → ℕ → Factor → Draft
 with-part d j f = record { factors = d .factors; labels = d .labels; declared = d .declared; costs = d .costs; parts = set (d .parts) j f }

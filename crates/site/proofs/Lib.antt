@@ -1,3 +1,4 @@
+pub mod Changing
 pub mod Opening
 pub mod Reading
 mod Drafting

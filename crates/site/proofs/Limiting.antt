@@ -19,7 +19,7 @@ use Rattle.site.specs.Files.{Sound}
 use Rattle.site.specs.declared.refusal.Fault.{Fault}
 use Rattle.site.specs.declared.command.Command.{Command}
 use Rattle.site.specs.declared.command.Command.the-variants.{Sizes, Facts, Goal, Cost, Move, Loop, End}
-use Rattle.site.proofs.Drafting.{put-at, put-off}
+use Rattle.site.proofs.Changing.{put-at, put-off}
 
 -- no fault is none of the three
 clear : (a b c : Bool) (x y z : Fault) → cond a (Some x) (cond b (Some y) (cond c (Some z) None)) ≡ None → (a ≡ false) × (b ≡ false) × (c ≡ false)

@@ -17,7 +17,8 @@ use Rattle.site.specs.Changes.{put}
 use Rattle.site.specs.SiteFile.{Described, adds, describes, task, early, misplaced, repeated, faultOf, siteFile, Priced}
 use Rattle.site.specs.declared.command.Command.{Command}
 use Rattle.site.specs.declared.command.Command.the-variants.{Sizes, Facts, Goal, Cost, Move, Loop, End}
-use Rattle.site.proofs.Drafting.{put-at, put-off, some-at}
+use Rattle.site.proofs.Changing.{put-at, put-off}
+use Rattle.site.proofs.Drafting.{some-at}
 use Rattle.site.proofs.Limiting.{fine}
 
 -- commands of two kinds are not the same

@@ -1,0 +1,8 @@
+mod Dominating
+mod Serving
+mod Replying
+mod Rising
+mod Judging
+mod Linking
+mod Pairs
+mod Comparing

@@ -1,0 +1,10 @@
+pub mod Comparison
+pub mod Ranking
+pub mod Tables
+pub mod Meaning
+pub mod Finding
+pub mod Rules
+pub mod First
+pub mod Verdict
+pub mod RankingFile
+pub mod Reading
