@@ -6,3 +6,4 @@ mod Judging
 mod Linking
 mod Pairs
 mod Comparing
+mod Concluding

@@ -8,3 +8,4 @@ pub mod First
 pub mod Verdict
 pub mod RankingFile
 pub mod Reading
+pub mod Judging

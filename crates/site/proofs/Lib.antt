@@ -5,3 +5,4 @@ mod Drafting
 mod Limiting
 mod Telling
 mod SiteReading
+mod Splitting

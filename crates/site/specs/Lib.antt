@@ -4,3 +4,5 @@ pub mod Files
 pub mod SiteFile
 pub mod Drafts
 pub mod Saying
+pub mod Inputs
+pub mod Words

@@ -26,8 +26,12 @@ pub record Says (cs : List Command) (t : FactoredTask) : Type 0 where
   pub moved : (j l x y : ℕ) → t .moves j l x ≡ Some y → Moved cs (t .facts j) j l x y
   pub moves : (j l x y : ℕ) → Moved cs (t .facts j) j l x y → t .moves j l x ≡ Some y
 
--- a site file that is accepted, and the task that its commands describe
+-- the task that the commands of an accepted site file describe
+abbrev pub taskOf : {bytes : List ℕ} → Accepted siteFile bytes → FactoredTask
+taskOf a = task (describes (a .ended .before))
+
+-- a site file that is accepted, and its task
 pub record SiteRead (bytes : List ℕ) (t : Task) : Type 0 where
   pub accepted : Accepted siteFile bytes
-  pub means : meaning t ≡ task (describes (accepted .ended .before))
+  pub means : meaning t ≡ taskOf accepted
   pub says : Says (accepted .ended .before) (meaning t)
