@@ -2,8 +2,7 @@
 use mathlib.Core.Path.{_≡_, subst}
 use mathlib.Core.List.{List}
 use Prim.Native.Nat.{ℕ}
-use Rattle.std.specs.declared.option.Option.{Option}
-use Rattle.std.specs.declared.option.Option.the-variants.{Some, None}
+use Rattle.std.specs.declared.option.Option.the-variants.{Some}
 use Rattle.std.specs.declared.result.Result.{Result}
 use Rattle.std.specs.declared.result.Result.the-variants.{Ok, Err}
 use Rattle.task.specs.Task.{FactoredTask}
@@ -14,8 +13,8 @@ use Rattle.site.specs.declared.refusal.Refusal.{Refusal}
 use Rattle.ranking.specs.Meaning.{relation}
 use Rattle.ranking.specs.Reading.{RankingRead}
 use Rattle.ranking.specs.Verdict.{Checked}
-use Rattle.ranking.specs.Judging.{Offered, Unfit, broken, Judged, site-alone, ranking-refused, ranking-fit, RankingJudged, Reliable}
-use Rattle.ranking.specs.declared.judge.Judgement.the-variants.{Accepted, SiteRefused, RankingRefused}
+use Rattle.ranking.specs.Judging.{Offered, Unfit, broken, Judged, ranking-refused, ranking-fit, RankingJudged, Reliable}
+use Rattle.ranking.specs.declared.judge.Judgement.the-variants.{Accepted, RankingRefused}
 use Rattle.ranking.specs.declared.order.Ranking.{Ranking}
 
 module _ (t : Task) (bytes : List ℕ) (k : Ranking) (read : RankingRead t bytes k) where
@@ -26,18 +25,13 @@ module _ (t : Task) (bytes : List ℕ) (k : Ranking) (read : RankingRead t bytes
   checked (Ok _) w = (record { offered = offered; simulation = w .0 }, w .1)
   checked (Err e) w = broken offered (w .1)
 
-module _ (site : List ℕ) where
-  pub refused-site : (o : Option (List ℕ)) (e : Refusal) → Reliable site o (SiteRefused e)
-  refused-site None e = tt
-  refused-site (Some bytes) e = tt
+module _ (site : List ℕ) (t : Task) (read : SiteRead site t) where
+  -- what is judged of the task that was read is judged of the task that the file describes
+  described : (bytes : List ℕ) (o : Result Unit Refusal) → RankingJudged (meaning t) bytes o → RankingJudged (taskOf (read .accepted)) bytes o
+  described bytes o w = subst (λ (u : FactoredTask). RankingJudged u bytes o) (read .means) w
 
-  module _ (t : Task) (read : SiteRead site t) where
-    -- what is judged of the task that was read is judged of the task that the file describes
-    described : (bytes : List ℕ) (o : Result Unit Refusal) → RankingJudged (meaning t) bytes o → RankingJudged (taskOf (read .accepted)) bytes o
-    described bytes o w = subst (λ (u : FactoredTask). RankingJudged u bytes o) (read .means) w
+  pub refused-ranking : (bytes : List ℕ) (e : Refusal) → Unfit (meaning t) bytes e → Judged site (Some bytes) (RankingRefused e)
+  refused-ranking bytes e w = ranking-refused (read .accepted) (described bytes (Err e) w)
 
-    pub refused-ranking : (bytes : List ℕ) (e : Refusal) → Unfit (meaning t) bytes e → Judged site (Some bytes) (RankingRefused e)
-    refused-ranking bytes e w = ranking-refused (read .accepted) (described bytes (Err e) w)
-
-    pub fit-ranking : (bytes : List ℕ) → RankingJudged (meaning t) bytes (Ok tt) → Judged site (Some bytes) Accepted × Reliable site (Some bytes) Accepted
-    fit-ranking bytes w = let p = described bytes (Ok tt) w in (ranking-fit (read .accepted) (p .0), (read .accepted, p .0, p .1))
+  pub fit-ranking : (bytes : List ℕ) → RankingJudged (meaning t) bytes (Ok tt) → Judged site (Some bytes) Accepted × Reliable site bytes Accepted
+  fit-ranking bytes w = let p = described bytes (Ok tt) w in (ranking-fit (read .accepted) (p .0), (read .accepted, p .0, p .1))

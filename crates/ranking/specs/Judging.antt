@@ -47,8 +47,7 @@ RankingJudged t bytes (Err e) = Unfit t bytes e
 
 -- What a judgement is good for: of an accepted ranking, whatever is done from a state can be done, at no higher cost, from
 -- any state that it is under.
-abbrev pub Reliable : List ℕ → Option (List ℕ) → Judgement → Type 0
-Reliable site None j = Unit {0}
-Reliable site (Some bytes) (SiteRefused e) = Unit {0}
-Reliable site (Some bytes) (RankingRefused e) = Unit {0}
-Reliable site (Some bytes) accepted = (a : Accepted siteFile site) × (f : Fit (taskOf a) bytes) × Dominates (taskOf a) (f .offered .relation)
+abbrev pub Reliable : List ℕ → List ℕ → Judgement → Type 0
+Reliable site ranking (SiteRefused e) = Unit {0}
+Reliable site ranking (RankingRefused e) = Unit {0}
+Reliable site ranking accepted = (a : Accepted siteFile site) × (f : Fit (taskOf a) ranking) × Dominates (taskOf a) (f .offered .relation)

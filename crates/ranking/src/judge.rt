@@ -1,6 +1,5 @@
 // The judgement of a site file and of a ranking.
-ghost use mathlib.Core.Path.{_≡_};
-ghost use Rattle.std.specs.Options.{mapped};
+ghost use Rattle.std.specs.declared.option.Option.the-variants.{Some, None};
 ghost use Rattle.task.specs.Meaning.{meaning};
 ghost use Rattle.ranking.specs.Judging.{Judged, RankingJudged, Reliable};
 use crate::order::Ranking;
@@ -23,19 +22,26 @@ fn judge_ranking(task: &Task, bytes: &[u8]) -> Result<(), Refusal>
     ranking.check(task)
 }
 
-// What is to be said of a site file, and of a ranking for it if one is offered.
-pub fn judge(site: &[u8], ranking: Option<&[u8]>) -> Judgement
-    ensures verdict { λ r. ⌜ Judged (now (site .entry)) (mapped now (ranking .entry)) r ⌝ }
-    ensures reliable { λ r. ⌜ Reliable (now (site .entry)) (mapped now (ranking .entry)) r ⌝ }
+// What is to be said of a site file by itself.
+pub fn judge_site(site: &[u8]) -> Judgement
+    ensures { λ r. ⌜ Judged (now (site .entry)) None r ⌝ }
+{
+    match read_site(site) {
+        Ok(_) => Judgement::Accepted,
+        Err(refusal) => Judgement::SiteRefused(refusal),
+    }
+}
+
+// What is to be said of a site file and of a ranking for it.
+pub fn judge(site: &[u8], ranking: &[u8]) -> Judgement
+    ensures verdict { λ r. ⌜ Judged (now (site .entry)) (Some (now (ranking .entry))) r ⌝ }
+    ensures reliable { λ r. ⌜ Reliable (now (site .entry)) (now (ranking .entry)) r ⌝ }
 {
     let task = match read_site(site) {
         Ok(task) => task,
         Err(refusal) => return Judgement::SiteRefused(refusal),
     };
-    let Some(bytes) = ranking else {
-        return Judgement::Accepted;
-    };
-    match judge_ranking(&task, bytes) {
+    match judge_ranking(&task, ranking) {
         Ok(()) => Judgement::Accepted,
         Err(refusal) => Judgement::RankingRefused(refusal),
     }

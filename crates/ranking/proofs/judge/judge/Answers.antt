@@ -1,19 +1,16 @@
-use Rattle.ranking.specs.Judging.{site-refused, site-alone}
-use Rattle.ranking.proofs.Concluding.{refused-site, refused-ranking, fit-ranking}
+use Rattle.ranking.specs.Judging.{site-refused}
+use Rattle.ranking.proofs.Concluding.{refused-ranking, fit-ranking}
 use Rattle.ranking.proofs.judge.judge.Needs as need
 
 pub returns-in-Err : need.returns-in-Err
-returns-in-Err c = record { verdict = site-refused (c .in-Err .ensures tt); reliable = refused-site (c .args .site .now) _ (c .in-Err .refusal) }
-
-pub returns-in-rest : need.returns-in-rest
-returns-in-rest c = rw (c .in-rest .is) (record { verdict = site-alone (c .in-Ok .ensures tt .accepted); reliable = tt })
+returns-in-Err c = record { verdict = site-refused (c .in-Err .ensures tt); reliable = tt }
 
 pub returns-in-Ok-judge-ranking : need.returns-in-Ok-judge-ranking
 returns-in-Ok-judge-ranking c =
-    let w = fit-ranking (c .args .site .now) (c .in-Ok .task) (c .in-Ok .ensures tt) (c .in-Some .bytes .now) (c .in-Ok-judge-ranking .ensures tt) in
-    rw (c .in-Some .is) (record { verdict = w .0; reliable = w .1 })
+    let w = fit-ranking (c .args .site .now) (c .in-Ok .task) (c .in-Ok .ensures tt) (c .args .ranking .now) (c .in-Ok-judge-ranking .ensures tt) in
+    record { verdict = w .0; reliable = w .1 }
 
 pub returns-in-Err-judge-ranking : need.returns-in-Err-judge-ranking
 returns-in-Err-judge-ranking c =
-    let w = refused-ranking (c .args .site .now) (c .in-Ok .task) (c .in-Ok .ensures tt) (c .in-Some .bytes .now) _ (c .in-Err-judge-ranking .ensures tt) in
-    rw (c .in-Some .is) (record { verdict = w; reliable = tt })
+    let w = refused-ranking (c .args .site .now) (c .in-Ok .task) (c .in-Ok .ensures tt) (c .args .ranking .now) _ (c .in-Err-judge-ranking .ensures tt) in
+    record { verdict = w; reliable = tt }

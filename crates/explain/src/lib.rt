@@ -1,0 +1,4 @@
+// Judgements in plain words, for a person.
+mod advice;
+pub mod display;
+pub mod explanation;
