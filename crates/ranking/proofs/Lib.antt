@@ -1,4 +1,4 @@
-mod Dominating
+pub mod Dominating
 mod Serving
 mod Replying
 mod Rising
@@ -7,3 +7,4 @@ mod Linking
 mod Pairs
 mod Comparing
 mod Concluding
+mod Once

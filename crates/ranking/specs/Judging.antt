@@ -1,6 +1,6 @@
 -- What is to be said of a site file and a ranking file. Assumes nothing.
+use mathlib.Core.Path.{_≡_}
 use mathlib.Core.List.{List}
-use mathlib.Core.Logic.{_⊎_}
 use Prim.Native.Nat.{ℕ}
 use Rattle.std.specs.declared.option.Option.{Option}
 use Rattle.std.specs.declared.option.Option.the-variants.{Some, None}
@@ -39,6 +39,10 @@ pub data Judged (site : List ℕ) : Option (List ℕ) → Judgement → Type 0 w
   site-alone : Accepted siteFile site → Judged site None accepted
   ranking-refused : {bytes : List ℕ} {e : Refusal} (a : Accepted siteFile site) → Unfit (taskOf a) bytes e → Judged site (Some bytes) (RankingRefused e)
   ranking-fit : {bytes : List ℕ} (a : Accepted siteFile site) → Fit (taskOf a) bytes → Judged site (Some bytes) accepted
+
+-- no other judgement fits
+abbrev pub Only : List ℕ → Option (List ℕ) → Judgement → Type 0
+Only site ranking j = (k : Judgement) → Judged site ranking k → k ≡ j
 
 -- what is said of a ranking by itself
 abbrev pub RankingJudged : FactoredTask → List ℕ → Result Unit Refusal → Type 0

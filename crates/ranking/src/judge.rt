@@ -1,7 +1,7 @@
 // The judgement of a site file and of a ranking.
 ghost use Rattle.std.specs.declared.option.Option.the-variants.{Some, None};
 ghost use Rattle.task.specs.Meaning.{meaning};
-ghost use Rattle.ranking.specs.Judging.{Judged, RankingJudged, Reliable};
+ghost use Rattle.ranking.specs.Judging.{Judged, Only, RankingJudged, Reliable};
 use crate::order::Ranking;
 use site::read::read_site;
 use site::refusal::Refusal;
@@ -24,7 +24,8 @@ fn judge_ranking(task: &Task, bytes: &[u8]) -> Result<(), Refusal>
 
 // What is to be said of a site file by itself.
 pub fn judge_site(site: &[u8]) -> Judgement
-    ensures { λ r. ⌜ Judged (now (site .entry)) None r ⌝ }
+    ensures verdict { λ r. ⌜ Judged (now (site .entry)) None r ⌝ }
+    ensures only { λ r. ⌜ Only (now (site .entry)) None r ⌝ }
 {
     match read_site(site) {
         Ok(_) => Judgement::Accepted,
@@ -35,6 +36,7 @@ pub fn judge_site(site: &[u8]) -> Judgement
 // What is to be said of a site file and of a ranking for it.
 pub fn judge(site: &[u8], ranking: &[u8]) -> Judgement
     ensures verdict { λ r. ⌜ Judged (now (site .entry)) (Some (now (ranking .entry))) r ⌝ }
+    ensures only { λ r. ⌜ Only (now (site .entry)) (Some (now (ranking .entry))) r ⌝ }
     ensures reliable { λ r. ⌜ Reliable (now (site .entry)) (now (ranking .entry)) r ⌝ }
 {
     let task = match read_site(site) {

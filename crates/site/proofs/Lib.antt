@@ -1,8 +1,9 @@
 pub mod Changing
 pub mod Opening
 pub mod Reading
-mod Drafting
-mod Limiting
+pub mod Once
+pub mod Drafting
+pub mod Limiting
 mod Telling
 mod SiteReading
 mod Splitting

@@ -3,7 +3,7 @@ use mathlib.Core.Path.{_≡_, refl, sym, ap, _∙_}
 use mathlib.Core.Bool.{Bool, true, false, cond}
 use mathlib.Core.List.{List, [], _∷_}
 use mathlib.Core.Logic.{_⊎_, inl, inr}
-use Prim.Native.Nat.{ℕ, _<_, _≤_}
+use Prim.Native.Nat.{ℕ, zero, suc, _<_, _≤_}
 use native.Mathlib.Omega.{arith}
 use lib.Dec.{T, ltb}
 use Rattle.std.proofs.shelf.Tests.{cases-eq, cases-lt, lt-ltb, le-ltb}
@@ -12,8 +12,9 @@ use Rattle.std.specs.declared.option.Option.{Option}
 use Rattle.std.specs.declared.option.Option.the-variants.{Some, None}
 use Rattle.task.specs.Limits.{factorLimit, factLimit, labelLimit}
 use Rattle.task.specs.Tables.{within}
+use Rattle.task.specs.Task.{move}
 use Rattle.site.specs.Changes.{put}
-use Rattle.site.specs.SiteFile.{Described, nothing, adds, leads, describes, misplaced, outside, repeated, faultOf, siteFile}
+use Rattle.site.specs.SiteFile.{Described, nothing, adds, leads, describes, task, misplaced, outside, repeated, faultOf, siteFile}
 use Rattle.site.specs.Drafts.{Limited}
 use Rattle.site.specs.Files.{Sound}
 use Rattle.site.specs.declared.refusal.Fault.{Fault}
@@ -161,3 +162,8 @@ none-limited = record {
 pub limited : (cs : List Command) → Sound siteFile cs → Limited (describes cs)
 limited [] s = none-limited
 limited (c ∷ cs) s = kept (describes cs) c (limited cs (s .2)) (fine (describes cs) c (s .0))
+
+-- what is described leads from facts to facts
+pub moves-land : (cs : List Command) → Sound siteFile cs → (j l x y : ℕ) → x < describes cs .facts j → move (task (describes cs)) j l x ≡ Some y → y < describes cs .facts j
+moves-land cs s j zero x y h e = let q : x ≡ y = cc in omega arith
+moves-land cs s j (suc l) x y h e = let w : T (ltb y (describes cs .facts j)) = rw e at (limited cs s .lands j (suc l) x) in lib.Dec.ltb→lt _ _ w

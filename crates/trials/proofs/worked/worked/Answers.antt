@@ -1,0 +1,5 @@
+use Rattle.trials.proofs.Examples.{worked-examples}
+use Rattle.trials.proofs.worked.worked.Needs as need
+
+pub returns : need.returns
+returns c = worked-examples
