@@ -31,7 +31,10 @@ pub impl fmt::Display for Location as LocationDisplay {
     fn fmt<W: fmt::Write>(&self, f: &mut fmt::Formatter<W>) -> fmt::Result {
         match self.0 {
             Refusal::File { at, .. } => write!(f, "byte {at}"),
-            Refusal::Chain { factor, a, b } => write!(f, "factor {factor}, fact {a} under fact {b}"),
+            Refusal::Chain { factor, a, b } => write!(
+                f,
+                "factor {factor}, fact {a} under fact {b}"
+            ),
             Refusal::Goal { factor, a, b } => write!(f, "factor {factor}, fact {a} under fact {b}"),
             Refusal::Reply {
                 factor,
@@ -48,7 +51,10 @@ pub impl fmt::Display for Explanation as ExplanationDisplay {
         let (file, refusal) = match self.judgement {
             Judgement::Accepted => {
                 if self.offered {
-                    return write!(f, "The site file describes a task, and the ranking may be relied on for it.");
+                    return write!(
+                        f,
+                        "The site file describes a task, and the ranking may be relied on for it."
+                    );
                 }
                 return write!(f, "The site file describes a task. No ranking was offered.");
             }

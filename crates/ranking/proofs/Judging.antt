@@ -1,9 +1,9 @@
 -- What the three rules together say of a ranking.
-use mathlib.Core.Path.{_≡_, refl, sym, ap, subst}
-use mathlib.Core.Bool.{Bool, true, false, _&&_}
+use mathlib.Core.Path.{_≡_, sym, subst}
+use mathlib.Core.Bool.{true}
 use mathlib.Core.List.{List, [], _∷_}
-use mathlib.Core.Logic.{_⊎_, inl, inr}
-use Prim.Native.Nat.{ℕ, zero, suc, _<_, _≤_}
+use mathlib.Core.Logic.{inl, inr}
+use Prim.Native.Nat.{ℕ, _<_}
 use native.Mathlib.Omega.{arith}
 use borrow.Author.Tests.{both-ways}
 use Rattle.std.proofs.shelf.Tests.{cases-eq}
@@ -11,9 +11,9 @@ use Rattle.std.specs.declared.result.Result.{Result}
 use Rattle.std.specs.declared.result.Result.the-variants.{Ok, Err}
 use Rattle.task.specs.Task.{FactoredTask, Lawful}
 use Rattle.ranking.specs.Ranking.{Ranking, Simulation}
-use Rattle.ranking.specs.Rules.{Chained, ChainHolds, ChainFault, GoalHolds, GoalFault, ReplyHolds, ReplyFault}
+use Rattle.ranking.specs.Rules.{ChainHolds, ChainFault, GoalHolds, GoalFault, ReplyHolds, ReplyFault}
 use Rattle.ranking.specs.First.{Then, Chains, Goals, Replies}
-use Rattle.ranking.specs.Verdict.{Below, turn, Broken, FirstBroken, Checked}
+use Rattle.ranking.specs.Verdict.{Below, turn, Broken, Checked}
 use Rattle.ranking.proofs.Dominating.{dominates}
 use Rattle.site.specs.declared.refusal.Refusal.{Refusal}
 use Rattle.site.specs.declared.refusal.Refusal.the-variants.{File, Chain, Goal, Reply}

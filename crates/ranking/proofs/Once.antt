@@ -28,7 +28,7 @@ use Rattle.ranking.specs.Judging.{Offered, Unfit, misread, broken, Fit, Judged
 use Rattle.ranking.specs.declared.listing.Listing.{Listing}
 use Rattle.ranking.specs.declared.listing.Listing.the-variants.{Pair, End}
 use Rattle.ranking.specs.declared.judge.Judgement.{Judgement}
-use Rattle.ranking.specs.declared.judge.Judgement.the-variants.{Accepted as accepted, SiteRefused, RankingRefused}
+use Rattle.ranking.specs.declared.judge.Judgement.the-variants.{SiteRefused, RankingRefused}
 
 -- ---- the ranking file
 -- the command in front of some bytes, and the bytes after it

@@ -1,9 +1,9 @@
 -- The first fault over a number and the rest of a place, from the first over the rest at each number.
-use mathlib.Core.Path.{_≡_, sym, subst}
-use mathlib.Core.Logic.{_⊎_, inl, inr}
+use mathlib.Core.Path.{sym, subst}
+use mathlib.Core.Logic.{inl, inr}
 use Prim.Native.Nat.{ℕ, _<_}
 use Rattle.std.specs.declared.result.Result.{Result}
-use Rattle.std.specs.declared.result.Result.the-variants.{Ok, Err}
+use Rattle.std.specs.declared.result.Result.the-variants.{Err}
 use Rattle.ranking.specs.First.{Then, FirstBy}
 use Rattle.site.specs.declared.refusal.Refusal.{Refusal}
 

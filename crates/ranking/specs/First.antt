@@ -1,12 +1,11 @@
 -- The first place, in rising order, at which a ranking breaks a rule. Assumes nothing.
 use mathlib.Core.Path.{_≡_}
-use mathlib.Core.List.{List, [], _∷_}
 use mathlib.Core.Logic.{_⊎_}
 use Prim.Native.Nat.{ℕ, _<_}
 use Rattle.std.specs.declared.result.Result.{Result}
 use Rattle.std.specs.declared.result.Result.the-variants.{Ok, Err}
 use Rattle.task.specs.Task.{FactoredTask}
-use Rattle.ranking.specs.Ranking.{Ranking, Simulation}
+use Rattle.ranking.specs.Ranking.{Ranking}
 use Rattle.ranking.specs.Rules.{ChainHolds, ChainFault, GoalHolds, GoalFault, ReplyHolds, ReplyFault}
 use Rattle.site.specs.declared.refusal.Refusal.{Refusal}
 use Rattle.site.specs.declared.refusal.Refusal.the-variants.{Chain, Goal, Reply}

@@ -55,7 +55,9 @@ impl Order {
         ensures { λ r. ⌜ ((a b : ℕ) → order r a b ≡ (eqb a b && ltb a factLimit)) ⌝ }
     {
         let mut order = Order {
-            rows: [Above { facts: [false; FACTS] }; FACTS],
+            rows: [Above {
+                facts: [false; FACTS],
+            }; FACTS],
         };
         for fact in 0..FACTS as u8 {
             order.list(fact, fact);

@@ -1,15 +1,14 @@
 -- What is written into a draft, as what it describes.
 use mathlib.Core.Path.{_≡_, refl, sym, ap, _∙_, fun-ext}
 use mathlib.Core.Bool.{Bool, true, false, cond}
-use mathlib.Core.List.{List, []}
+use mathlib.Core.List.{[]}
 use mathlib.Core.Logic.{inl, inr}
 use Prim.Native.Nat.{ℕ, zero, suc, _+_, _<_}
 use native.Mathlib.Omega.{arith}
 use native.Mathlib.Numerals.{add-one}
 use lib.ListN.{length, getD, set, replicate}
 use lib.Dec.{ltb}
-use Rattle.std.proofs.shelf.Tests.{or-left, or-right, or-from, cases-lt, cases-eq, cond-true, cond-false, eq-eqb, ne-eqb}
-use Rattle.std.proofs.shelf.Lists.{getD-set-same, getD-set-other, set-past}
+use Rattle.std.proofs.shelf.Tests.{or-left, or-right, or-from, cases-lt, cases-eq}
 use Rattle.std.proofs.shelf.Ways.{tells}
 use Rattle.std.specs.declared.option.Option.{Option}
 use Rattle.std.specs.declared.option.Option.the-variants.{Some, None}
@@ -99,12 +98,6 @@ with-part d j f = record { factors = d .factors; labels = d .labels; declared = 
 
 abbrev pub with-row : Factor → ℕ → Row → Factor
 with-row f x r = record { facts = f .facts; start = f .start; rows = set (f .rows) x r }
-
-pub marked-goals : (f : Factor) (x : ℕ) (r : Row) → x < length (f .rows) → r .goal ≡ true → goals (with-row f x r) ≡ put x true (goals f)
-marked-goals f x r h e = fun-ext (λ z. set-puts (λ q. q .goal) (f .rows) x r past-row true h e z)
-
-pub marked-moves : (f : Factor) (x : ℕ) (r : Row) → r .next ≡ row f x .next → entry (with-row f x r) ≡ entry f
-marked-moves f x r e = fun-ext (λ m. fun-ext (λ z. set-keeps (λ q. targets q m) (f .rows) x r past-row (ap (λ ns. leadsTo (getD ns m nowhere)) e) z))
 
 pub led-goals : (f : Factor) (x : ℕ) (r : Row) → r .goal ≡ row f x .goal → goals (with-row f x r) ≡ goals f
 led-goals f x r e = fun-ext (λ z. set-keeps (λ q. q .goal) (f .rows) x r past-row e z)

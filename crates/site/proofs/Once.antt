@@ -1,7 +1,7 @@
 -- A file of commands that are read in one way is judged in one way.
 use mathlib.Core.Path.{_≡_, refl, sym, ap, subst, _∙_}
 use mathlib.Core.List.{List, [], _∷_, _++_}
-use mathlib.Core.Logic.{_⊎_, inl, inr}
+use mathlib.Core.Logic.{inl, inr}
 use mathlib.Core.Bool.{cond}
 use Prim.Native.Nat.{ℕ, _+_, _*_, _/_, _%_, _≤_}
 use native.Mathlib.Omega.{arith}
@@ -87,7 +87,7 @@ module _ {C : Type 0} (F : Format C) (way : OneWay F) where
     stopped-once : (f g : Fault) (m n : ℕ) → Stopped F bytes f m → Stopped F bytes g n → File f m ≡ File g n
     stopped-once f g m n s u =
         let h = came-once bytes (s .rest) (u .rest) (s .before) (u .before) (s .came) (u .came)
-            (faulty-halts (s .before) (s .rest) f (s .faulty)) (faulty-halts (u .before) (u .rest) g (u .faulty)) in
+        (faulty-halts (s .before) (s .rest) f (s .faulty)) (faulty-halts (u .before) (u .rest) g (u .faulty)) in
         let w = subst (λ so. Faulty F (F .faultOf so) (u .rest) g) (sym (h .0)) (u .faulty) in
         let p = faulty-once (F .faultOf (s .before)) (s .rest) f g (s .faulty) (subst (λ r. Faulty F (F .faultOf (s .before)) r g) (sym (h .1)) w) in
         let q : m ≡ n = s .at ∙ ap (λ so. length (written F so)) (h .0) ∙ sym (u .at) in
@@ -96,14 +96,14 @@ module _ {C : Type 0} (F : Format C) (way : OneWay F) where
     ended-stopped : (m n : ℕ) (fault : Fault) → Ended F bytes m → Stopped F bytes fault n → ⊥
     ended-stopped m n fault e s =
         let h = came-once bytes (F .bytesOf (F .end) ++ e .rest) (s .rest) (e .before) (s .before) (e .came) (s .came)
-            (end-halts (e .before) (e .rest)) (faulty-halts (s .before) (s .rest) fault (s .faulty)) in
+        (end-halts (e .before) (e .rest)) (faulty-halts (s .before) (s .rest) fault (s .faulty)) in
         let f = own (F .faultOf (s .before)) (F .end) (e .rest) (s .rest) fault (sym (h .1)) (s .faulty) in
         none-some (e .ends) (ap (λ so. F .faultOf so (F .end)) (h .0) ∙ f)
 
     ended-once : (m n : ℕ) (e : Ended F bytes m) (f : Ended F bytes n) → (e .before ≡ f .before) × (e .rest ≡ f .rest) × (m ≡ n)
     ended-once m n e f =
         let h = came-once bytes (F .bytesOf (F .end) ++ e .rest) (F .bytesOf (F .end) ++ f .rest) (e .before) (f .before) (e .came) (f .came)
-            (end-halts (e .before) (e .rest)) (end-halts (f .before) (f .rest)) in
+        (end-halts (e .before) (e .rest)) (end-halts (f .before) (f .rest)) in
         (h .0, way .same (F .end) (F .end) (e .rest) (f .rest) (h .1) .1, e .at ∙ ap (λ so. length (written F so)) (h .0) ∙ sym (f .at))
 
     -- where one end lacks nothing, the other lacks nothing

@@ -1,5 +1,6 @@
 // The sizes of the box's tables. A task that needs more is refused.
 pub const FACTORS: usize = 12;
+
 pub const FACTS: usize = 16;
 // Besides stay.
 pub const LABELS: usize = 63;

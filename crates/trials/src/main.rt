@@ -15,7 +15,7 @@ fn main(rt: LibcRuntime) -> Result<(), AnyError> {
 }
 
 fn run(rt: &LibcRuntime) -> Result<(), AnyError> {
-    try_all(rt, &SITE, &RANKING)
+    try_all(rt, SITE, RANKING)
 }
 
 fn try_all(rt: &LibcRuntime, site: &[u8], ranking: &[u8]) -> Result<(), AnyError> {

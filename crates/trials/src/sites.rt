@@ -23,12 +23,31 @@ pub(crate) fn try_order(rt: &LibcRuntime, site: &[u8]) -> Result<(), AnyError> {
     try_changed(rt, "the second factor first", site, 3, 4, &[])?;
     try_changed(rt, "a factor twice", site, 7, 0, &[0x46, 0, 2, 0])?;
     try_changed(rt, "a factor too many", site, 11, 0, &[0x46, 2, 1, 0])?;
-    try_changed(rt, "a goal before the last factor", site, 7, 0, &[0x47, 0, 0])?;
+    try_changed(
+        rt,
+        "a goal before the last factor",
+        site,
+        7,
+        0,
+        &[0x47, 0, 0],
+    )?;
     try_changed(rt, "the end before the last factor", site, 7, 53, &[0x45])?;
-    try_changed(rt, "out of turn and out of range", site, 7, 0, &[0x46, 0, 99, 99])?;
-    try_changed(rt, "costs before goals", site, 11, 20, &[
-        0x43, 2, 0, 30, 0x43, 1, 0, 30, 0x47, 1, 2, 0x47, 1, 1, 0x47, 1, 0, 0x47, 0, 1,
-    ])?;
+    try_changed(
+        rt,
+        "out of turn and out of range",
+        site,
+        7,
+        0,
+        &[0x46, 0, 99, 99],
+    )?;
+    try_changed(
+        rt,
+        "costs before goals",
+        site,
+        11,
+        20,
+        b"C\x02\x00\x1EC\x01\x00\x1EG\x01\x02G\x01\x01G\x01\x00G\x00\x01",
+    )?;
     Ok(())
 }
 
@@ -56,10 +75,31 @@ pub(crate) fn try_repeats(rt: &LibcRuntime, site: &[u8]) -> Result<(), AnyError>
     try_changed(rt, "a goal fact twice", site, 14, 0, &[0x47, 0, 1])?;
     try_changed(rt, "a cost twice", site, 27, 0, &[0x43, 1, 0, 30])?;
     try_changed(rt, "a transition twice", site, 36, 0, &[0x4D, 0, 1, 0, 0])?;
-    try_changed(rt, "self-loops after a transition", site, 36, 0, &[0x53, 0, 1])?;
-    try_changed(rt, "a transition after self-loops", site, 44, 0, &[0x4D, 1, 1, 0, 1])?;
+    try_changed(
+        rt,
+        "self-loops after a transition",
+        site,
+        36,
+        0,
+        &[0x53, 0, 1],
+    )?;
+    try_changed(
+        rt,
+        "a transition after self-loops",
+        site,
+        44,
+        0,
+        &[0x4D, 1, 1, 0, 1],
+    )?;
     try_changed(rt, "self-loops twice", site, 44, 0, &[0x53, 1, 1])?;
-    try_changed(rt, "out of range before given twice", site, 14, 0, &[0x47, 2, 1])?;
+    try_changed(
+        rt,
+        "out of range before given twice",
+        site,
+        14,
+        0,
+        &[0x47, 2, 1],
+    )?;
     Ok(())
 }
 
@@ -69,7 +109,14 @@ pub(crate) fn try_ends(rt: &LibcRuntime, site: &[u8]) -> Result<(), AnyError> {
     try_changed(rt, "a letter of ranking files", site, 11, 1, &[0x50])?;
     try_changed(rt, "the last command cut short", site, 57, 3, &[])?;
     try_changed(rt, "no end", site, 59, 1, &[])?;
-    try_changed(rt, "an operand too many", site, 14, 0, &[0x45])?;
-    try_changed(rt, "a label without cost, and a byte after the end", site, 27, 33, &[0x45, 0])?;
+    try_changed(rt, "an end too early", site, 14, 0, &[0x45])?;
+    try_changed(
+        rt,
+        "a label without cost, and a byte after the end",
+        site,
+        27,
+        33,
+        &[0x45, 0],
+    )?;
     Ok(())
 }

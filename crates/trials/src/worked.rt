@@ -29,7 +29,12 @@ pub(crate) fn try_worked_rankings(
     let reply = [0x50, 1, 1, 0, 0x45];
     show_words(rt, "only 1 under 0 in factor 1", judge(site, &reply), true)?;
     let dear = changed(heap, site, 26, 1, &[31])?;
-    show_words(rt, "the same with label 1 at cost 31", judge(&dear, &reply), true)
+    show_words(
+        rt,
+        "the same with label 1 at cost 31",
+        judge(&dear, &reply),
+        true,
+    )
 }
 
 pub(crate) fn try_worked_sites(rt: &LibcRuntime, site: &[u8]) -> Result<(), AnyError> {

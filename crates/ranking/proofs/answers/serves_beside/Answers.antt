@@ -1,4 +1,3 @@
-use borrow.Author.Needs.{needs}
 use borrow.Author.Count.{below-more}
 use mathlib.Core.Path.{_≡_}
 use Rattle.ranking.specs.Ranking.{Serves}

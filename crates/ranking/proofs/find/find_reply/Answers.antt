@@ -3,7 +3,7 @@ use borrow.Author.Count.{below-more}
 use borrow.Author.Tests.{both-ways}
 use native.Mathlib.Omega.{arith}
 use mathlib.Core.Path.{_≡_, refl, sym}
-use Prim.Native.Nat.{ℕ, _<_}
+use Prim.Native.Nat.{_<_}
 use Rattle.ranking.specs.Ranking.{Serves}
 use Rattle.task.specs.Tables.{part}
 use Rattle.task.specs.Meaning.{meaning}

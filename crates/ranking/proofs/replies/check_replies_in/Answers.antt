@@ -1,4 +1,3 @@
-use borrow.Author.Needs.{needs}
 use borrow.Author.Count.{below-more}
 use Prim.Native.Nat.{_<_}
 use Rattle.std.proofs.shelf.Results.{err-from-errBy}

@@ -1,6 +1,5 @@
 use borrow.Author.Needs.{needs}
 use borrow.Author.Count.{below-more}
-use native.Mathlib.Omega.{arith}
 use Prim.Native.Nat.{_<_}
 use borrow.Author.Tests.{both-ways}
 use Rattle.task.specs.Meaning.{meaning}
