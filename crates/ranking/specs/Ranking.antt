@@ -13,12 +13,12 @@ use Rattle.ranking.specs.Comparison.{Comparison}
 abbrev pub Ranking : Type 0
 Ranking = ℕ → ℕ → ℕ → Bool
 
--- In factor j, label m does at each fact at least as well as label k.
+-- Label m serves for label k in factor j: at each fact it does at least as well.
 abbrev pub Serves : FactoredTask → Ranking → ℕ → ℕ → ℕ → Type 0
 Serves t r j k m = (x y : ℕ) → x < t .facts j → move t j k x ≡ Some y → (z : ℕ) × (move t j m x ≡ Some z) × (r j y z ≡ true)
 
--- How b answers a move by label k to the fact a′ in factor i: by a label m that costs no more and leads from b to a
--- fact at least as good, and that serves for k in every other factor.
+-- A reply from b to a transition by label k to the fact a′ in factor i: a label that costs no more, leads from b to a fact
+-- that a′ stands under, and serves for k in every other factor.
 pub record Reply (t : FactoredTask) (r : Ranking) (i k a′ b : ℕ) : Type 0 where
   pub label : ℕ
   pub into : ℕ

@@ -21,7 +21,7 @@ pub record ChainFault (t : FactoredTask) (r : Ranking) (i a b : ℕ) : Type 0 wh
   pub chain : Chained t r i a b
   pub unranked : r i a b ≡ false
 
--- the goal rule at a fact a and a fact b that is at least as good
+-- the goal rule at a fact a and a fact b that it may stand under
 abbrev pub GoalHolds : FactoredTask → Ranking → ℕ → ℕ → ℕ → Type 0
 GoalHolds t r i a b = i < t .factors → a < t .facts i → b < t .facts i → r i a b ≡ true → t .goal i a ≡ true → t .goal i b ≡ true
 
@@ -33,7 +33,7 @@ pub record GoalFault (t : FactoredTask) (r : Ranking) (i a b : ℕ) : Type 0 whe
   pub goal : t .goal i a ≡ true
   pub miss : t .goal i b ≡ false
 
--- the reply rule at a fact a, a fact b that is at least as good, and a label k
+-- the reply rule at a fact a, a fact b that it may stand under, and a label k
 abbrev pub ReplyHolds : FactoredTask → Ranking → ℕ → ℕ → ℕ → ℕ → Type 0
 ReplyHolds t r i a b k =
     i < t .factors → a < t .facts i → b < t .facts i → k ≤ t .labels → r i a b ≡ true → (a′ : ℕ) → move t i k a ≡ Some a′ → Reply t r i k a′ b

@@ -1,4 +1,4 @@
-// Whether a move has a reply: the finder finds one, and here it is verified.
+// Whether a transition has a reply: the finder finds one, and here it is verified.
 ghost use Prim.Native.Nat.{ℕ, _<_, _≤_};
 ghost use Rattle.std.specs.Orderings.{Decides, When};
 ghost use Rattle.ranking.specs.Finding.{IsReply, ServesBeside};
@@ -24,7 +24,7 @@ fn serves_beside(task: &Task, ranking: &Ranking, factor: u8, label: u8, other: u
     true
 }
 
-// Whether `from` answers the move of `label` to `to` by this label, which leads to this fact.
+// Whether this label, and the fact that it leads to, are a reply from `from` to the transition by `label` to `to`.
 fn is_reply(
     task: &Task,
     ranking: &Ranking,
@@ -56,6 +56,7 @@ fn is_reply(
     }
 }
 
+// Whether `from` has a reply to the transition by `label` to `to`.
 pub(crate) fn has_reply(
     task: &Task,
     ranking: &Ranking,

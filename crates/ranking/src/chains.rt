@@ -1,4 +1,4 @@
-// The chain rule: where a chain leads from `a` to another fact `b`, `b` is at least as good as `a`.
+// The chain rule: where a chain leads from `a` to `b`, `a` stands under `b`.
 ghost use Prim.Native.Nat.{ℕ, _<_, _≤_};
 ghost use Rattle.std.specs.Orderings.{When};
 ghost use Rattle.ranking.specs.Rules.{ChainHolds, ChainFault};

@@ -6,7 +6,7 @@ ghost use Rattle.ranking.specs.Meaning.{relation};
 use crate::order::Ranking;
 use task::task::Task;
 
-// The first label by which `from` answers the move of `label` to `to` in a factor, and the fact that it leads to.
+// The reply from `from` to the transition by `label` to `to` in a factor: the first label that serves, and the fact that it leads to.
 pub(crate) fn find_reply(
     task: &Task,
     ranking: &Ranking,

@@ -1,4 +1,4 @@
-// The goal rule: a fact at least as good as a goal fact is a goal fact.
+// The goal rule: a fact that a goal fact stands under is a goal fact.
 ghost use Prim.Native.Nat.{ℕ, _<_, _≤_};
 ghost use Rattle.ranking.specs.First.{GoalsFrom, GoalsIn, Goals};
 ghost use Rattle.task.specs.Meaning.{meaning};

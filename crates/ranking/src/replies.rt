@@ -1,4 +1,4 @@
-// The reply rule: a fact answers each move of a fact that it is at least as good as.
+// The reply rule: a fact has a reply to each transition of a fact that stands under it.
 ghost use Prim.Native.Nat.{ℕ, _<_, _≤_};
 ghost use Rattle.ranking.specs.First.{RepliesAt, RepliesFrom, RepliesIn, Replies};
 ghost use Rattle.task.specs.Meaning.{meaning};

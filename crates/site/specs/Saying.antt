@@ -13,7 +13,7 @@ use Rattle.task.specs.declared.task.Task.{Task}
 use Rattle.site.specs.declared.command.Command.{Command}
 use Rattle.site.specs.declared.command.Command.the-variants.{Sizes, Facts, Goal, Cost, Move, Loop}
 
--- some command has the label l move the fact x of the factor j, which has n facts, to y: a transition, or a self-loop at every fact
+-- some command gives the factor j, which has n facts, the transition by l from x to y: as such, or as a self-loop at every fact
 abbrev pub Moved : List Command → ℕ → ℕ → ℕ → ℕ → ℕ → Type 0
 Moved cs n j l x y = Among (Move j l x y) cs ⊎ (Among (Loop j l) cs × (x < n) × (y ≡ x))
 
