@@ -1,9 +1,10 @@
-// Trials of the judgement on sample files: what is proved of them as facts about the definitions, and what the program answers.
+// Trials: the judgement of sample files, proved as facts about the definitions and run; and both waiting lists side by side.
 mod limits;
 mod rankings;
 mod samples;
 mod show;
 mod sites;
+mod waiting;
 mod worked;
 
 use samples::RANKING;
@@ -28,5 +29,7 @@ fn try_all(rt: &LibcRuntime, site: &[u8], ranking: &[u8]) -> Result<(), AnyError
     sites::try_repeats(rt, site)?;
     sites::try_ends(rt, site)?;
     limits::try_labels(rt)?;
-    limits::try_lengths(rt, site)
+    limits::try_lengths(rt, site)?;
+    waiting::try_search_lists(rt)?;
+    waiting::try_distance_lists(rt)
 }

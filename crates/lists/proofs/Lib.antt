@@ -1,0 +1,10 @@
+pub mod Nones
+pub mod Scanning
+pub mod RowTables
+pub mod Heaping
+pub mod Exchanging
+pub mod Ranking
+pub mod Moving
+pub mod Changing
+pub mod Orders
+pub mod Deciding

@@ -1,0 +1,9 @@
+pub mod Capacity
+pub mod Sooner
+pub mod Least
+pub mod Scan
+pub mod Runs
+pub mod Rows
+pub mod Heaps
+pub mod Tidy
+pub mod Tables
