@@ -84,6 +84,7 @@ fn same_answer<K: Key, A: WaitingList<K>, B: WaitingList<K>>(
 const CALLS: u32 = 20000;
 
 // What came of a row of calls: how many answers were equal, and a sum over these.
+#[derive(Clone, Copy)]
 struct Tally {
     equal: u32,
     sum: u64,
