@@ -1,4 +1,6 @@
 // The laws of A* runs and of rows of calls to a planner, each on a function that asks for its proof.
+#![tactic(auto)]
+
 ghost use Rattle.astar.specs.Laws.{SearchesWell};
 ghost use Rattle.astar.specs.Promises.{KeepsPromises};
 ghost use Rattle.astar.specs.Takes.{TakesOneWay};

@@ -1,4 +1,6 @@
 // Estimators: what a state of a task costs at least, up to a goal.
+#![tactic(auto)]
+
 pub mod blank;
 mod column;
 mod distances;

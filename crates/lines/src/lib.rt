@@ -1,4 +1,6 @@
 // The lines that a visit prints, each written into a row of bytes.
+#![tactic(auto)]
+
 ghost use Rattle.std.specs.Prelude.{◌≡◌, ◌<◌, ◌≤◌, ◌++◌, length, drop};
 ghost use Rattle.lines.specs.Lines.{row_limit, verdict_text, items_text, line_text};
 ghost use Rattle.lines.specs.Puts.{Puts};

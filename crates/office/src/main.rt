@@ -1,5 +1,7 @@
 // office SITE [RANKING]: says whether a site file describes a task, and whether a ranking may be relied on for it.
 // Without arguments both files come from standard input, each behind two bytes of length.
+#![tactic(auto)]
+
 use anyhow::anyhow;
 use explain::explanation::{Explanation, Line};
 use ranking::judge::{Judgement, judge, judge_site};

@@ -1,4 +1,6 @@
 // A planner: it looks for a cheapest plan of a task, by calls.
+#![tactic(auto)]
+
 pub mod call;
 pub mod counts;
 mod entry;

@@ -1,4 +1,6 @@
 // Site files: the commands of a file, the task that they describe, and why a file is refused.
+#![tactic(auto)]
+
 pub mod command;
 mod draft;
 pub mod input;

@@ -1,4 +1,6 @@
 // A factored planning task: its tables, its states and its steps.
+#![tactic(auto)]
+
 pub mod factor;
 pub mod limits;
 mod lookup;

@@ -1,4 +1,6 @@
 // Work for the benchmark in bench/: a heap is filled with keys and drained, again and again.
+#![tactic(auto)]
+
 use lists::heaps::SearchHeap;
 use lists::keys::SearchKey;
 use lists::waiting::{CAPACITY, WaitingList};

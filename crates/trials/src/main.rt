@@ -1,4 +1,6 @@
 // Trials: the judgement of sample files, proved as facts about the definitions and run; and both waiting lists side by side.
+#![tactic(auto)]
+
 mod limits;
 mod rankings;
 mod samples;

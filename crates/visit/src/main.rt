@@ -1,4 +1,6 @@
 // visit < INPUT: plans a visit. The input holds a site file and a ranking, each behind two bytes of length.
+#![tactic(auto)]
+
 use astar::refusal::CallRefusal;
 use estimators::greater::Greater;
 use estimators::longest::Longest;

@@ -5,8 +5,8 @@ use Rattle.lists.specs.Tables.{heap_holds, heap_order}
 use Rattle.lists.proofs.Changing.{replaced_fronted, entered_fronted, loose_at}
 use Rattle.lists.proofs.heap.Heap.enter.Goals as goal
 
-pub invariant-of-self : goal.invariant-of-self
-invariant-of-self g c =
+pub invariant_of-self : goal.invariant_of-self
+invariant_of-self g c =
     let s = c.args.self.now in
     let number = c.args.number in
     let full = s.full in (
@@ -37,8 +37,8 @@ returns-then-at-last g c =
           c.requires.order;
     }
 
-pub invariant-of-self-2 : goal.invariant-of-self-2
-invariant-of-self-2 g c =
+pub invariant_of-self-2 : goal.invariant_of-self-2
+invariant_of-self-2 g c =
     let s = c.args.self.now in
     let h = c.exchange.new.self in
     let went = c.exchange.ensures in

@@ -3,8 +3,8 @@ use Rattle.std.proofs.lemmas.List.{length-set}
 use Rattle.lists.proofs.Exchanging.{order_swapped, still_listed, still_placed, still_fronted}
 use Rattle.lists.proofs.heap.Heap.exchange.Goals as goal
 
-pub invariant-of-self : goal.invariant-of-self
-invariant-of-self g c =
+pub invariant_of-self : goal.invariant_of-self
+invariant_of-self g c =
     let s = c.args.self.now in
     let i = c.args.i in
     let j = c.args.j in
@@ -38,14 +38,14 @@ returns g c =
       order = order_swapped s.order s.places c.args.i c.args.j full.1 full.2 pre.within pre.other s.listed s.placed;
     }
 
-pub offset-bounds-self-a : goal.offset-bounds-self-a
-offset-bounds-self-a g c = let l = (c.args.self.now.listed c.args.i c.requires.within).0 in omega arith
+pub offset_bounds-self-a : goal.offset_bounds-self-a
+offset_bounds-self-a g c = let l = (c.args.self.now.listed c.args.i c.requires.within).0 in omega arith
 
 pub bounds-self-a : goal.bounds-self-a
 bounds-self-a g c = let l = (c.args.self.now.listed c.args.i c.requires.within).0 in omega arith
 
-pub offset-bounds-self-b : goal.offset-bounds-self-b
-offset-bounds-self-b g c = let l = (c.args.self.now.listed c.args.j c.requires.other).0 in omega arith
+pub offset_bounds-self-b : goal.offset_bounds-self-b
+offset_bounds-self-b g c = let l = (c.args.self.now.listed c.args.j c.requires.other).0 in omega arith
 
 pub bounds-self-b : goal.bounds-self-b
 bounds-self-b g c = let l = (c.args.self.now.listed c.args.j c.requires.other).0 in omega arith

@@ -19,8 +19,8 @@ returns-then-self-eq0 g c =
       high = high_top g.K.Key.sooner laws.irreflexive laws.transitive laws.ties (heap_holds s) (heap_order s) s.count c.requires;
     }
 
-pub invariant-of-self : goal.invariant-of-self
-invariant-of-self g c =
+pub invariant_of-self : goal.invariant_of-self
+invariant_of-self g c =
     let s = c.args.self.now in
     let h = c.exchange.new.self in
     let went = c.exchange.ensures in
@@ -72,8 +72,8 @@ returns g c =
           (heap_order h) last 0 loose (λ pos. absurd (omega arith));
     }
 
-pub offset-bounds-self-number : goal.offset-bounds-self-number
-offset-bounds-self-number g c = let l = (c.args.self.now.listed 0 (lit< tt)).0 in omega arith
+pub offset_bounds-self-number : goal.offset_bounds-self-number
+offset_bounds-self-number g c = let l = (c.args.self.now.listed 0 (lit< tt)).0 in omega arith
 
 pub listed : goal.listed
 listed g c = let l = (c.args.self.now.listed 0 (lit< tt)).0 in let full = c.exchange.new.self.full.0 in omega arith

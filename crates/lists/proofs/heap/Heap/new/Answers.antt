@@ -5,11 +5,11 @@ use Rattle.lists.specs.Tidy.{Listed}
 use Rattle.lists.proofs.Nones.{get_d_nones}
 use Rattle.lists.proofs.heap.Heap.new.Goals as goal
 
-pub invariant-of-result : goal.invariant-of-result
-invariant-of-result g c =
-    let r = c.in-order-order.result in
-    let full = c.in-order-order.ensures.length in
-    let at = c.in-order-order.ensures.places in
+pub invariant_of-result : goal.invariant_of-result
+invariant_of-result g c =
+    let r = c.in_order-order.result in
+    let full = c.in_order-order.ensures.length in
+    let at = c.in_order-order.ensures.places in
     let listed : Listed r r = λ i l. (subst (λ x. x < capacity_limit) (sym (at i l)) l, ap (λ x. get_or r x 0) (at i l) ∙ at i l) in
     ((refl, full, full, lit≤ tt), (listed, (listed, (λ n l. ap is_some (get_d_nones capacity_limit n) ∙ sym (le-ltb (get_or r n 0) 0 (omega arith)), tt))))
 
