@@ -9,6 +9,6 @@ returns-then-ranking-factor c =
     let t = meaning c.args.task.now in
     let r = relation c.args.ranking.now in (
       λ e. reply_by t r _ _ _ _ c.args.reply (omega arith) (omega arith) (sym c.in-Some.ensures ∙ ap Some c.if-fact-into.true) c.if-ranking-factor.true
-          (c.serves-beside.ensures.0 e),
-      λ q. c.serves-beside.ensures.1 (beside_from t r _ _ _ _ c.args.reply q),
+          (c.serves_beside.ensures.0 e),
+      λ q. c.serves_beside.ensures.1 (beside_from t r _ _ _ _ c.args.reply q),
     )

@@ -14,11 +14,11 @@ labels-preserved-then-price c =
     let r = relation c.args.ranking.now in
     (c.labels.invariant.0, passed t r _ _ _ _ _ c.labels.invariant.1 (too_dear t r _ _ _ _ _ (omega arith)))
 
-pub labels-preserved-in-default : goal.labels-preserved-in-default
-labels-preserved-in-default c =
+pub labels-preserved-in_default : goal.labels-preserved-in_default
+labels-preserved-in_default c =
     let t = meaning c.args.task.now in
     let r = relation c.args.ranking.now in
-    (c.labels.invariant.0, passed t r _ _ _ _ _ c.labels.invariant.1 (moves_none t r _ _ _ _ _ (sym c.in-default.ensures)))
+    (c.labels.invariant.0, passed t r _ _ _ _ _ c.labels.invariant.1 (moves_none t r _ _ _ _ _ (sym c.in_default.ensures)))
 
 pub labels-preserved-then-not-ranking-factor : goal.labels-preserved-then-not-ranking-factor
 labels-preserved-then-not-ranking-factor c =
@@ -28,24 +28,24 @@ labels-preserved-then-not-ranking-factor c =
       passed t r _ _ _ _ _ c.labels.invariant.1 (too_low t r _ _ _ _ _ c.in-Some.into (sym c.in-Some.ensures) c.if-not-ranking-factor.true),
     )
 
-pub loop-x-preserved-in-default-target : goal.loop-x-preserved-in-default-target
-loop-x-preserved-in-default-target c =
+pub loop-x-preserved-in_default-target : goal.loop-x-preserved-in_default-target
+loop-x-preserved-in_default-target c =
     let t = c.args.task.now in
     let r = relation c.args.ranking.now in
     let j = c.loop-j.j in
     let x = c.loop-x.x in
     let h : x < (part t.parts j).facts = search rules in
-    below_more _ _ c.loop-x.invariant (at_none (meaning t) r j _ _ x (seen t j _ x _ h c.in-default-target.ensures))
+    below_more _ _ c.loop-x.invariant (at_none (meaning t) r j _ _ x (seen t j _ x _ h c.in_default-target.ensures))
 
-pub labels-preserved-in-default-target-2 : goal.labels-preserved-in-default-target-2
-labels-preserved-in-default-target-2 c =
+pub labels-preserved-in_default-target-2 : goal.labels-preserved-in_default-target-2
+labels-preserved-in_default-target-2 c =
     let t = c.args.task.now in
     let r = relation c.args.ranking.now in
     let j = c.loop-j.j in
     let x = c.loop-x.x in
     let h : x < (part t.parts j).facts = search rules in
     let p = seen t j c.args.label x _ h c.in-Some-target.ensures in
-    let q = seen t j c.labels.other x _ h c.in-default-target-2.ensures in
+    let q = seen t j c.labels.other x _ h c.in_default-target-2.ensures in
     let n = serves_not (meaning t) r j _ c.labels.other x c.in-Some-target.y h p (λ z e b. none_some q e) in
     (c.labels.invariant.0, passed (meaning t) r _ _ _ _ _ c.labels.invariant.1 (serves_none (meaning t) r _ _ _ _ _ j c.loop-j-test.true c.if-j-factor.false n))
 

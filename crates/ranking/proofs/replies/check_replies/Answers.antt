@@ -8,12 +8,12 @@ use Rattle.site.specs.declared.refusal.Refusal.TheVariants.{Reply}
 use Rattle.ranking.proofs.Rising.{err_up}
 use Rattle.ranking.proofs.replies.check_replies.Goals as goal
 
-pub returns-in-err-check-replies-in : goal.returns-in-err-check-replies-in
-returns-in-err-check-replies-in c =
+pub returns-in_err-check_replies_in : goal.returns-in_err-check_replies_in
+returns-in_err-check_replies_in c =
     let t = meaning c.args.task.now in
     let r = relation c.args.ranking.now in
-    let p = err_from_is_err_and c.from-residual.result c.from-residual.ensures.1 in
-    rw (p.1, p.2) (err_up (Then (Then ◌<◌)) (λ i q. ReplyHolds t r i q.0 q.1.0 q.1.1) (λ i q. ReplyFault t r i q.0 q.1.0 q.1.1) (λ i q. Reply i q.0 q.1.0 q.1.1) _ _ c.loop-factor.invariant c.in-err-check-replies-in.ensures)
+    let p = err_from_is_err_and c.from_residual.result c.from_residual.ensures.1 in
+    rw (p.1, p.2) (err_up (Then (Then ◌<◌)) (λ i q. ReplyHolds t r i q.0 q.1.0 q.1.1) (λ i q. ReplyFault t r i q.0 q.1.0 q.1.1) (λ i q. Reply i q.0 q.1.0 q.1.1) _ _ c.loop-factor.invariant c.in_err-check_replies_in.ensures)
 
 pub loop-factor-preserved : goal.loop-factor-preserved
-loop-factor-preserved c = below_more _ _ c.loop-factor.invariant c.in-ok-check-replies-in.ensures
+loop-factor-preserved c = below_more _ _ c.loop-factor.invariant c.in_ok-check_replies_in.ensures

@@ -14,7 +14,7 @@ returns-in-loop-label c = (
     ranked = c.if-not-ranking-factor.false;
     into = c.in-Some.to;
     moves = sym c.in-Some.ensures;
-    unanswered = λ q. both_ways _ c.if-not-has-reply.true (c.has-reply.ensures.1 q);
+    unanswered = λ q. both_ways _ c.if-not-has_reply.true (c.has_reply.ensures.1 q);
   },
   c.loop-label.invariant,
 )

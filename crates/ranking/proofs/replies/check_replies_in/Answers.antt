@@ -8,12 +8,12 @@ use Rattle.site.specs.declared.refusal.Refusal.TheVariants.{Reply}
 use Rattle.ranking.proofs.Rising.{err_up}
 use Rattle.ranking.proofs.replies.check_replies_in.Goals as goal
 
-pub returns-in-err-check-replies-from : goal.returns-in-err-check-replies-from
-returns-in-err-check-replies-from c =
+pub returns-in_err-check_replies_from : goal.returns-in_err-check_replies_from
+returns-in_err-check_replies_from c =
     let t = meaning c.args.task.now in
     let r = relation c.args.ranking.now in
-    let p = err_from_is_err_and c.from-residual.result c.from-residual.ensures.1 in
-    rw (p.1, p.2) (err_up (Then ◌<◌) (λ i q. ReplyHolds t r c.args.factor i q.0 q.1) (λ i q. ReplyFault t r c.args.factor i q.0 q.1) (λ i q. Reply c.args.factor i q.0 q.1) _ _ c.loop-a.invariant c.in-err-check-replies-from.ensures)
+    let p = err_from_is_err_and c.from_residual.result c.from_residual.ensures.1 in
+    rw (p.1, p.2) (err_up (Then ◌<◌) (λ i q. ReplyHolds t r c.args.factor i q.0 q.1) (λ i q. ReplyFault t r c.args.factor i q.0 q.1) (λ i q. Reply c.args.factor i q.0 q.1) _ _ c.loop-a.invariant c.in_err-check_replies_from.ensures)
 
 pub loop-a-preserved : goal.loop-a-preserved
-loop-a-preserved c = below_more _ _ c.loop-a.invariant c.in-ok-check-replies-from.ensures
+loop-a-preserved c = below_more _ _ c.loop-a.invariant c.in_ok-check_replies_from.ensures

@@ -5,7 +5,7 @@ use Rattle.ranking.specs.Meaning.{relation}
 use Rattle.task.specs.Tables.{part}
 use Rattle.ranking.proofs.Serving.{seen, lands_low, serves_not, at_some, at_none, none_some, at_same}
 use Rattle.ranking.proofs.serves.serves.Goals as goal
-use Rattle.ranking.proofs.serves.serves.Goals.{in-Some+in-Some-target, in-default}
+use Rattle.ranking.proofs.serves.serves.Goals.{in-Some+in-Some-target, in_default}
 
 pub bounds-above-y : goal.bounds-above-y
 bounds-above-y c =
@@ -21,8 +21,8 @@ bounds-above-z c =
     let h : x < (part t.parts c.args.factor).facts = search rules in
     lands_low t _ c.args.other x _ c.requires.factor h (seen t _ _ x _ h c.in-Some-target.ensures)
 
-pub returns-in-default-target : goal.returns-in-default-target
-returns-in-default-target c =
+pub returns-in_default-target : goal.returns-in_default-target
+returns-in_default-target c =
     let t = c.args.task.now in
     let x = c.loop-x.x in
     let h : x < (part t.parts c.args.factor).facts = search rules in
@@ -37,7 +37,7 @@ returns-in-default-target·2 c =
     let x = c.loop-x.x in
     let h : x < (part t.parts c.args.factor).facts = search rules in
     let p = seen t _ c.args.label x _ h c.in-Some.ensures in
-    let q = seen t _ c.args.other x _ h c.in-default-target.ensures in
+    let q = seen t _ c.args.other x _ h c.in_default-target.ensures in
     serves_not (meaning t) (relation c.args.ranking.now) _ _ _ x c.in-Some.y h p (λ z e b. none_some q e)
 
 pub loop-x-preserved : goal.loop-x-preserved
@@ -49,5 +49,5 @@ loop-x-preserved c =
     below_more _ _ c.loop-x.invariant (elim c.match-target.branch [
       | in-Some+in-Some-target w ↦
           at_some (meaning t) r _ _ _ x _ _ (seen t _ _ x _ h w.in-Some.ensures) (seen t _ _ x _ h w.in-Some-target.ensures) w.if-above-y.true
-      | in-default w ↦ at_none (meaning t) r _ _ _ x (seen t _ _ x _ h w.in-default.ensures)
+      | in_default w ↦ at_none (meaning t) r _ _ _ x (seen t _ _ x _ h w.in_default.ensures)
     ])

@@ -9,16 +9,13 @@ pub invariant_of-self : goal.invariant_of-self
 invariant_of-self g c =
     let s = c.args.self.now in
     let number = c.args.number in
-    let full = s.full in (
-      (length-set s.keys number (Some c.args.key) ∙ full.0, full.1, full.2, full.3),
-      (
-        s.listed,
-        (
-          s.placed,
-          (replaced_fronted s.keys s.places number full.0 c.requires.within s.count c.args.key c.if-at-last.true s.fronted, tt),
-        ),
-      ),
-    )
+    let full = s.full in
+    record {
+      full = (length-set s.keys number (Some c.args.key) ∙ full.0, full.1, full.2, full.3);
+      listed = s.listed;
+      placed = s.placed;
+      fronted = replaced_fronted s.keys s.places number full.0 c.requires.within s.count c.args.key c.if-at-last.true s.fronted;
+    }
 
 pub returns-then-at-last : goal.returns-then-at-last
 returns-then-at-last g c =
@@ -47,20 +44,14 @@ invariant_of-self-2 g c =
     let left = c.if-at-last.false in
     let inside = (s.placed number c.requires.within).0 in
     let at : get_or h.places number 0 ≡ last =
-    sym (ap (λ x. get_or h.places x 0) (went.order.1 ∙ (s.placed number c.requires.within).1)) ∙ (h.listed last (omega arith)).1 in (
-      (length-set h.keys number (Some c.args.key) ∙ h.full.0, h.full.1, h.full.2, omega arith),
-      (
-        h.listed,
-        (
-          h.placed,
-          (
-            entered_fronted h.keys h.places number h.full.0 c.requires.within h.order last h.placed at c.args.key
-                (subst (λ n. Fronted h.keys h.places n) went.count h.fronted),
-            tt,
-          ),
-        ),
-      ),
-    )
+    sym (ap (λ x. get_or h.places x 0) (went.order.1 ∙ (s.placed number c.requires.within).1)) ∙ (h.listed last (omega arith)).1 in
+    record {
+      full = (length-set h.keys number (Some c.args.key) ∙ h.full.0, h.full.1, h.full.2, omega arith);
+      listed = h.listed;
+      placed = h.placed;
+      fronted = entered_fronted h.keys h.places number h.full.0 c.requires.within h.order last h.placed at c.args.key
+          (subst (λ n. Fronted h.keys h.places n) went.count h.fronted);
+    }
 
 pub returns : goal.returns
 returns g c =

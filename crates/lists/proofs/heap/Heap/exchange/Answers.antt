@@ -11,21 +11,18 @@ invariant_of-self g c =
     let a = get_or s.order i 0 in
     let b = get_or s.order j 0 in
     let full = s.full in
-    let pre = c.requires in (
-      (
+    let pre = c.requires in
+    record {
+      full = (
         full.0,
         length-set (set s.order i b) j a ∙ length-set s.order i b ∙ full.1,
         length-set (set s.places a j) b i ∙ length-set s.places a j ∙ full.2,
         full.3,
-      ),
-      (
-        still_listed s.order s.places i j full.1 full.2 pre.within pre.other s.listed s.placed,
-        (
-          still_placed s.order s.places i j full.1 full.2 pre.within pre.other s.listed s.placed,
-          (still_fronted s.order s.places i j full.1 full.2 pre.within pre.other s.listed s.placed s.keys s.count pre.alike s.fronted, tt),
-        ),
-      ),
-    )
+      );
+      listed = still_listed s.order s.places i j full.1 full.2 pre.within pre.other s.listed s.placed;
+      placed = still_placed s.order s.places i j full.1 full.2 pre.within pre.other s.listed s.placed;
+      fronted = still_fronted s.order s.places i j full.1 full.2 pre.within pre.other s.listed s.placed s.keys s.count pre.alike s.fronted;
+    }
 
 pub returns : goal.returns
 returns g c =

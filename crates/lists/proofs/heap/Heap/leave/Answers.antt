@@ -30,16 +30,13 @@ invariant_of-self g c =
     let some = c.if-self-eq0.false in
     let within = (s.listed 0 (omega arith)).0 in
     let same = went.count in
-    let at : get_or h.places number 0 ≡ last = sym (ap (λ x. get_or h.places x 0) went.order.1) ∙ (h.listed last (omega arith)).1 in (
-      (length-set h.keys number None ∙ h.full.0, h.full.1, h.full.2, omega arith),
-      (
-        h.listed,
-        (
-          h.placed,
-          (left_fronted h.keys h.places number h.full.0 within h.order last h.placed at h.count (omega arith) h.fronted, tt),
-        ),
-      ),
-    )
+    let at : get_or h.places number 0 ≡ last = sym (ap (λ x. get_or h.places x 0) went.order.1) ∙ (h.listed last (omega arith)).1 in
+    record {
+      full = (length-set h.keys number None ∙ h.full.0, h.full.1, h.full.2, omega arith);
+      listed = h.listed;
+      placed = h.placed;
+      fronted = left_fronted h.keys h.places number h.full.0 within h.order last h.placed at h.count (omega arith) h.fronted;
+    }
 
 pub returns : goal.returns
 returns g c =

@@ -11,7 +11,12 @@ invariant_of-result g c =
     let full = c.in_order-order.ensures.length in
     let at = c.in_order-order.ensures.places in
     let listed : Listed r r = λ i l. (subst (λ x. x < capacity_limit) (sym (at i l)) l, ap (λ x. get_or r x 0) (at i l) ∙ at i l) in
-    ((refl, full, full, lit≤ tt), (listed, (listed, (λ n l. ap is_some (get_d_nones capacity_limit n) ∙ sym (le-ltb (get_or r n 0) 0 (omega arith)), tt))))
+    record {
+      full = (refl, full, full, lit≤ tt);
+      listed = listed;
+      placed = listed;
+      fronted = λ n l. ap is_some (get_d_nones capacity_limit n) ∙ sym (le-ltb (get_or r n 0) 0 (omega arith));
+    }
 
 pub returns : goal.returns
 returns g c = record { order = λ i low none. absurd (omega arith); empty = λ n. get_d_nones capacity_limit n }

@@ -6,22 +6,22 @@ use Rattle.ranking.proofs.Judging.{chains_end, goals_end, replies_end}
 use Rattle.ranking.proofs.Linking.{self}
 use Rattle.ranking.proofs.order.Ranking.check.Goals as goal
 
-pub returns-in-err-check-chains : goal.returns-in-err-check-chains
-returns-in-err-check-chains c =
+pub returns-in_err-check_chains : goal.returns-in_err-check_chains
+returns-in_err-check_chains c =
     let t = meaning c.args.task.now in
     let r = relation c.args.self.now in
-    let p = err_from_is_err_and c.from-residual.result c.from-residual.ensures.1 in
-    rw (p.1, p.2) (chains_end t r (lawful c.args.task.now) _ c.in-err-check-chains.ensures)
+    let p = err_from_is_err_and c.from_residual.result c.from_residual.ensures.1 in
+    rw (p.1, p.2) (chains_end t r (lawful c.args.task.now) _ c.in_err-check_chains.ensures)
 
-pub returns-in-err-check-goals : goal.returns-in-err-check-goals
-returns-in-err-check-goals c =
+pub returns-in_err-check_goals : goal.returns-in_err-check_goals
+returns-in_err-check_goals c =
     let t = meaning c.args.task.now in
     let r = relation c.args.self.now in
-    let p = err_from_is_err_and c.from-residual-in-err-check-goals.result c.from-residual-in-err-check-goals.ensures.1 in
-    rw (p.1, p.2) (goals_end t r (lawful c.args.task.now) _ c.in-ok-check-chains.ensures c.in-err-check-goals.ensures)
+    let p = err_from_is_err_and c.from_residual-in_err-check_goals.result c.from_residual-in_err-check_goals.ensures.1 in
+    rw (p.1, p.2) (goals_end t r (lawful c.args.task.now) _ c.in_ok-check_chains.ensures c.in_err-check_goals.ensures)
 
 pub returns : goal.returns
 returns c =
     let t = meaning c.args.task.now in
     let r = relation c.args.self.now in
-    replies_end t r (lawful c.args.task.now) c.check-replies.result (self c.args.task.now c.args.self.now) c.in-ok-check-chains.ensures c.in-ok-check-goals.ensures c.check-replies.ensures
+    replies_end t r (lawful c.args.task.now) c.check_replies.result (self c.args.task.now c.args.self.now) c.in_ok-check_chains.ensures c.in_ok-check_goals.ensures c.check_replies.ensures

@@ -5,12 +5,12 @@ use Rattle.ranking.specs.declared.order.Order.{Order}
 use Rattle.ranking.proofs.Comparing.{above_past, order_past, rank_past}
 use Rattle.ranking.proofs.order.Ranking.ranks.Goals as goal
 
-pub returns-in-default : goal.returns-in-default
-returns-in-default c = rank_past c.args.self.now.parts c.args.factor c.args.a c.args.b c.in-default.ensures.lookup.3
+pub returns-in_default : goal.returns-in_default
+returns-in_default c = rank_past c.args.self.now.parts c.args.factor c.args.a c.args.b c.in_default.ensures.lookup.3
 
-pub returns-in-default-get : goal.returns-in-default-get
-returns-in-default-get c =
-    order_past c.in-Some.order.now c.args.a c.args.b c.in-default-get.ensures.lookup.3
+pub returns-in_default-get : goal.returns-in_default-get
+returns-in_default-get c =
+    order_past c.in-Some.order.now c.args.a c.args.b c.in_default-get.ensures.lookup.3
     ∙ ap (λ (o : Order). order o c.args.a c.args.b) (c.in-Some.ensures.lookup.3.1 _)
 
 pub returns-in-None : goal.returns-in-None

@@ -3,14 +3,14 @@ use Rattle.task.specs.Meaning.{meaning}
 use Rattle.ranking.proofs.Pairs.{rank_listed, own_kept, known_fine}
 use Rattle.ranking.proofs.order.Ranking.take.Goals as goal
 
-pub returns-else-not-has-fact-2 : goal.returns-else-not-has-fact-2
-returns-else-not-has-fact-2 c = (
-  rw c.in-Pair.is (known_fine (meaning c.args.task.now) _ _ _ c.if-not-has-fact.ensures c.if-not-has-fact-2.ensures),
+pub returns-else-not-has_fact-2 : goal.returns-else-not-has_fact-2
+returns-else-not-has_fact-2 c = (
+  rw c.in-Pair.is (known_fine (meaning c.args.task.now) _ _ _ c.if-not-has_fact.ensures c.if-not-has_fact-2.ensures),
   rw c.in-Pair.is (rank_listed c.args.self.now.parts c.in-Pair.factor c.in-Pair.lower c.in-Pair.upper c.list.new.self (search rules) c.list.ensures),
 )
 
-pub invariant-of-self : goal.invariant-of-self
-invariant-of-self c = (
+pub invariant_of-self : goal.invariant_of-self
+invariant_of-self c = (
   own_kept c.args.self.now.parts c.in-Pair.factor c.in-Pair.lower c.in-Pair.upper c.list.new.self (search rules) c.list.ensures
       c.args.self.now.own,
   tt,
