@@ -31,8 +31,8 @@ returns-in_default-target c =
     let n = c.if-above-y.false in
     serves_not (meaning t) (relation c.args.ranking.now) _ _ _ x c.in-Some.y h p (λ z e b. both_ways _ n (at_same (relation c.args.ranking.now _ _) q e b))
 
-pub returns-in-default-target·2 : goal.returns-in-default-target·2
-returns-in-default-target·2 c =
+pub returns-in_default-target-2 : goal.returns-in_default-target-2
+returns-in_default-target-2 c =
     let t = c.args.task.now in
     let x = c.loop-x.x in
     let h : x < (part t.parts c.args.factor).facts = search rules in

@@ -5,10 +5,10 @@ use Rattle.planner.specs.View.{view, phase_of}
 use Rattle.planner.proofs.Answering.{end_phase, no_cost}
 use Rattle.planner.proofs.planner.Planner.cost.Goals as goal
 
-pub returns-in-default : goal.returns-in-default
-returns-in-default g c =
+pub returns-in_default : goal.returns-in_default
+returns-in_default g c =
     let p = c.args.self.now in
-    record { exact = (refl, no_cost (view g.E.Estimator.value g.L.WaitingList.holds p) p.phase (sym c.plan-end.ensures ∙ c.in-default.is)); cheapest = tt }
+    record { exact = (refl, no_cost (view g.E.Estimator.value g.L.WaitingList.holds p) p.phase (sym c.plan-end.ensures ∙ c.in_default.is)); cheapest = tt }
 
 pub returns : goal.returns
 returns g c =

@@ -4,11 +4,11 @@ use Rattle.astar.specs.declared.refusal.CallRefusal.TheVariants.{NoPlan, PastPla
 use Rattle.planner.proofs.Answering.{end_phase, no_end, tells_from, tells_none, names_from}
 use Rattle.planner.proofs.planner.Planner.label.Goals as goal
 
-pub returns-in-default : goal.returns-in-default
-returns-in-default g c =
+pub returns-in_default : goal.returns-in_default
+returns-in_default g c =
     let p = c.args.self.now in
     let m = view g.E.Estimator.value g.L.WaitingList.holds p in
-    let tells = tells_none m c.args.position (no_end p.phase (sym c.plan-end.ensures ∙ c.in-default.is)) in
+    let tells = tells_none m c.args.position (no_end p.phase (sym c.plan-end.ensures ∙ c.in_default.is)) in
     record { exact = tells; plan = names_from m c.args.position (Err NoPlan) tells }
 
 pub returns-in-Some-label-at : goal.returns-in-Some-label-at

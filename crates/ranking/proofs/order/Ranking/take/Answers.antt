@@ -10,8 +10,7 @@ returns-else-not-has_fact-2 c = (
 )
 
 pub invariant_of-self : goal.invariant_of-self
-invariant_of-self c = (
-  own_kept c.args.self.now.parts c.in-Pair.factor c.in-Pair.lower c.in-Pair.upper c.list.new.self (search rules) c.list.ensures
-      c.args.self.now.own,
-  tt,
-)
+invariant_of-self c = record {
+  own = own_kept c.args.self.now.parts c.in-Pair.factor c.in-Pair.lower c.in-Pair.upper c.list.new.self (search rules) c.list.ensures
+      c.args.self.now.own;
+}

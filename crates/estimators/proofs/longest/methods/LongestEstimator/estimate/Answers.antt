@@ -14,4 +14,4 @@ loop-factor-preserved g c =
     let j = c.loop-factor.factor in
     let h : j < t.factors = omega arith in
     let fact = get_or-take t.factors s.facts j 0 h in
-    c.greater-of-longest.ensures ∙ ap₂ greater c.loop-factor.invariant (c.look-up-cost.ensures ∙ ap (cell columns j) (sym fact)) ∙ sym (greatest_more columns (state_of t s) j)
+    c.greater_of-longest.ensures ∙ ap₂ greater c.loop-factor.invariant (c.look_up-cost.ensures ∙ ap (cell columns j) (sym fact)) ∙ sym (greatest_more columns (state_of t s) j)

@@ -4,14 +4,17 @@ use Rattle.estimators.specs.Longest.{ColumnsRight}
 use Rattle.estimators.specs.Largest.{columns_more, low_more, longest_exact}
 use Rattle.estimators.proofs.longest.methods.LongestEstimator.ready.Goals as goal
 
-pub invariant-of-self : goal.invariant-of-self
-invariant-of-self g c =
+pub invariant_of-self : goal.invariant_of-self
+invariant_of-self g c =
     let s = c.loop-factor.self in
     let j = c.loop-factor.factor in
     let few = c.args.task.now.few in
     let full = s.full in
     let h : j < length s.columns = omega arith in
-    (length-set s.columns j c.column-of-column.result ∙ full, (low_more s.columns (meaning c.args.task.now) j c.column-of-column.result h c.column-of-column.ensures s.low, tt))
+    record {
+      full = length-set s.columns j c.column_of-column.result ∙ full;
+      low = low_more s.columns (meaning c.args.task.now) j c.column_of-column.result h c.column_of-column.ensures s.low;
+    }
 
 pub loop-factor-preserved : goal.loop-factor-preserved
 loop-factor-preserved g c =
@@ -20,7 +23,7 @@ loop-factor-preserved g c =
     let few = c.args.task.now.few in
     let full = s.full in
     let h : j < length s.columns = omega arith in
-    columns_more s.columns (meaning c.args.task.now) j c.column-of-column.result h c.column-of-column.ensures c.loop-factor.invariant
+    columns_more s.columns (meaning c.args.task.now) j c.column_of-column.result h c.column_of-column.ensures c.loop-factor.invariant
 
 pub returns : goal.returns
 returns g c =

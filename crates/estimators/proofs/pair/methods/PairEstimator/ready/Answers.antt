@@ -10,7 +10,7 @@ pub distances-requires : goal.distances-requires
 distances-requires g c =
     let e = c.args.self.now in
     let t = c.args.task.now in
-    let yes' : apart e.first e.second t.factors ≡ true = sym c.if-not-are-apart.ensures in
+    let yes' : apart e.first e.second t.factors ≡ true = sym c.if-not-are_apart.ensures in
     let i = apart_first e.first e.second t.factors yes' in
     let j = apart_second e.first e.second t.factors yes' in
     record {
@@ -19,19 +19,19 @@ distances-requires g c =
       blank = λ x. get_d_nones 256 x;
     }
 
-pub invariant-of-self : goal.invariant-of-self
-invariant-of-self g c = ((λ x d p. let h = c.distances.ensures.low x d p in omega arith), tt)
+pub invariant_of-self : goal.invariant_of-self
+invariant_of-self g c = record { low = λ x d p. let h = c.distances.ensures.low x d p in omega arith }
 
 pub returns : goal.returns
 returns g c =
     let e = c.args.self.now in
     let t = c.args.task.now in
-    let yes' : apart e.first e.second t.factors ≡ true = sym c.if-not-are-apart.ensures in
+    let yes' : apart e.first e.second t.factors ≡ true = sym c.if-not-are_apart.ensures in
     let i = apart_first e.first e.second t.factors yes' in
     let j = apart_second e.first e.second t.factors yes' in
     pair_exact (meaning t) e.first e.second c.facts-self.result c.distances.new.table (lawful t) yes' (i, t.small e.first i) (j, t.small e.second j) c.facts-self.ensures c.distances.ensures
 
-pub returns-then-not-are-apart : goal.returns-then-not-are-apart
-returns-then-not-are-apart g c =
+pub returns-then-not-are_apart : goal.returns-then-not-are_apart
+returns-then-not-are_apart g c =
     let e = c.args.self.now in
-    none_exact (meaning c.args.task.now) e.first e.second e.across e.table (sym c.if-not-are-apart.ensures)
+    none_exact (meaning c.args.task.now) e.first e.second e.across e.table (sym c.if-not-are_apart.ensures)
