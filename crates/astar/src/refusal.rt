@@ -1,8 +1,8 @@
 // Why a call to a planner, or a question to it, is refused, and how that is reported.
 ghost use Rattle.std.specs.Prelude.{◌≡◌};
-ghost use Rattle.astar.specs.Refusals.{own_report, call_report_of};
+ghost use Rattle.astar.specs.Refusals.{call_report_of};
 
-use site::refusal::{Layer, Place, Refusal, Report};
+use site::refusal::{Refusal, Report};
 
 #[derive(Clone, Copy)]
 pub enum CallRefusal {
@@ -22,29 +22,27 @@ pub enum CallRefusal {
     NoPlan,
 }
 
+// A refusal as it is reported.
+#[derive(Clone, Copy)]
+pub enum CallReport {
+    // That of the file of the call.
+    File(Report),
+    // One of the planner's own, by its number.
+    Own(u8),
+}
+
 impl CallRefusal {
-    pub fn report(self) -> Report
+    pub fn report(self) -> CallReport
         ensures { result ≡ call_report_of self }
     {
         match self {
-            CallRefusal::Input(refusal) => refusal.report(),
-            CallRefusal::NoTakes => own(12),
-            CallRefusal::PastPlan => own(13),
-            CallRefusal::Empty => own(21),
-            CallRefusal::Busy => own(22),
-            CallRefusal::Idle => own(23),
-            CallRefusal::NoPlan => own(24),
+            CallRefusal::Input(refusal) => CallReport::File(refusal.report()),
+            CallRefusal::NoTakes => CallReport::Own(12),
+            CallRefusal::PastPlan => CallReport::Own(13),
+            CallRefusal::Empty => CallReport::Own(21),
+            CallRefusal::Busy => CallReport::Own(22),
+            CallRefusal::Idle => CallReport::Own(23),
+            CallRefusal::NoPlan => CallReport::Own(24),
         }
-    }
-}
-
-// A refusal of the planner's own.
-fn own(number: u8) -> Report
-    ensures { result ≡ own_report number }
-{
-    Report {
-        number,
-        layer: Layer::Planner,
-        place: Place::Offset(0),
     }
 }

@@ -8,9 +8,9 @@ ghost use Rattle.lines.specs.Puts.{Puts};
 mod put;
 mod report;
 
+use astar::refusal::CallReport;
 use put::{put_count, put_text};
-use report::put_report;
-use site::refusal::Report;
+use report::put_call_report;
 
 // How many bytes a row has: no line is longer.
 pub const ROW: usize = 64;
@@ -55,7 +55,7 @@ pub enum Line {
     // How many labels made a step.
     Tried(u32),
     // Why a call is refused.
-    Refused(Report),
+    Refused(CallReport),
 }
 
 impl Line {
@@ -85,7 +85,7 @@ impl Line {
             Line::Taken(taken) => put_count(row, b"taken ", taken as u64),
             Line::Entries(entries) => put_count(row, b"entries ", entries as u64),
             Line::Tried(tried) => put_count(row, b"tried ", tried as u64),
-            Line::Refused(report) => put_report(row, report),
+            Line::Refused(report) => put_call_report(row, report),
         }
     }
 }

@@ -4,5 +4,5 @@ use Rattle.lines.proofs.Line.write.Goals as goal
 
 pub returns : goal.returns
 returns c =
-    let whole = then c.put-items-end.ensures.puts c.put-text.ensures (omega arith) in
+    let whole = then c.put_items-end.ensures.puts c.put_text.ensures (omega arith) in
     record { size = omega (arith, whole.ends); fits = omega arith; bytes = from_start whole }

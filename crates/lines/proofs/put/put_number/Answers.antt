@@ -2,12 +2,12 @@ use Rattle.std.proofs.Common.{arith}
 use Rattle.std.proofs.lemmas.Fmt.{length-decimal-le}
 use Rattle.lines.proofs.put.put_number.Goals as goal
 
-pub put-digits-requires : goal.put-digits-requires
-put-digits-requires c = omega (arith, length-decimal-le 20 c.args.number (omega arith) (omega arith) (omega arith))
+pub put_digits-requires : goal.put_digits-requires
+put_digits-requires c = omega (arith, length-decimal-le 20 c.args.number (omega arith) (omega arith) (omega arith))
 
 pub returns : goal.returns
 returns c =
     record {
-      puts = c.put-digits.ensures;
+      puts = c.put_digits.ensures;
       short = omega (arith, length-decimal-le 20 c.args.number (omega arith) (omega arith) (omega arith));
     }

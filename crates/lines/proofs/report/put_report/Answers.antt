@@ -4,8 +4,8 @@ use Rattle.lines.proofs.report.put_report.Goals as goal
 
 pub returns : goal.returns
 returns c =
-    let place = then c.put-text-end-4.ensures c.put-place.ensures.puts (omega arith) in
-    let layer = then (reads c.layer-word.ensures.word c.put-text-end-3.ensures) place (omega arith) in
-    let parted = then c.put-text-end-2.ensures layer (omega arith) in
-    let number = then c.put-small-end.ensures.puts parted (omega arith) in
-    record { puts = then c.put-text-end.ensures number (omega arith); short = omega arith }
+    let place = then c.put_text-end-4.ensures c.put_place.ensures.puts (omega arith) in
+    let layer = then (reads c.layer_word.ensures.word c.put_text-end-3.ensures) place (omega arith) in
+    let parted = then c.put_text-end-2.ensures layer (omega arith) in
+    let number = then c.put_small-end.ensures.puts parted (omega arith) in
+    record { puts = then c.put_text-end.ensures number (omega arith); short = omega arith }
