@@ -1,6 +1,6 @@
 -- The greater of two estimates keeps what both keep. Assumes nothing.
 use Rattle.std.specs.Prelude.{◌≡◌, ℕ, ◌+◌, ◌≤◌, max, List, Some, None, Option, refl}
-use Rattle.std.proofs.Common.{sym, ap, ap₂, subst, ◌∙◌, arith}
+use Rattle.std.proofs.Common.{sym, ap₂, arith}
 use Rattle.task.specs.Task.{FactoredTask, price}
 use Rattle.estimators.specs.Estimates.{Consistent, greater}
 

@@ -8,6 +8,7 @@ use ranking::judge::{Judgement, judge, judge_site};
 use site::input::split_input;
 use site::limits::FILE_BYTES;
 use std::io::Read;
+use std::process::ExitCode;
 use std::{env, fs};
 
 const USAGE: &str = "usage: office SITE [RANKING], or office < INPUT";
@@ -53,16 +54,24 @@ fn judge_input(rt: &HostRuntime) -> anyhow::Result<()> {
     say(rt, judge(site, ranking), true)
 }
 
-fn main(rt: HostRuntime) -> anyhow::Result<()> {
-    let mut args = env::args(&rt)?;
+fn run(rt: &HostRuntime) -> anyhow::Result<()> {
+    let mut args = env::args(rt)?;
     let _ = args.next();
     let Some(site) = args.next() else {
-        return judge_input(&rt);
+        return judge_input(rt);
     };
     let ranking = args.next();
     if args.next().is_some() {
         eprintln!(rt; "office: {USAGE}")?;
-        return Err(USAGE.into());
+        return Err(anyhow!("{USAGE}"));
     }
-    judge_files(&rt, site.as_str(), ranking)
+    judge_files(rt, site.as_str(), ranking)
+}
+
+// What is wrong was said where it was found, so an error is not printed again.
+fn main(rt: HostRuntime) -> ExitCode {
+    match run(&rt) {
+        Ok(()) => ExitCode::SUCCESS,
+        Err(_) => ExitCode::FAILURE,
+    }
 }

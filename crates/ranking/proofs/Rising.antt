@@ -1,5 +1,5 @@
 -- The first fault over a number and the rest of a place, from the first over the rest at each number.
-use Rattle.std.proofs.Common.{ℕ, ◌<◌, Err, Result, sym, subst, inl, inr}
+use Rattle.std.proofs.Common.{ℕ, ◌<◌, Err, sym, subst, inl, inr}
 use Rattle.ranking.specs.First.{Then, FirstBy}
 use Rattle.site.specs.declared.refusal.Refusal.{Refusal}
 

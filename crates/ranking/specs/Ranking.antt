@@ -1,5 +1,5 @@
 -- What a ranking is, and when it is a label-dominance simulation. Assumes nothing.
-use Rattle.std.specs.Prelude.{◌≡◌, ℕ, zero, suc, ◌<◌, ◌≤◌, Bool, true, ◌&&◌, List, Some, Option, ◌≢◌, slice_index}
+use Rattle.std.specs.Prelude.{◌≡◌, ℕ, zero, suc, ◌<◌, ◌≤◌, Bool, true, ◌&&◌, List, Some, ◌≢◌, slice_index}
 use Rattle.task.specs.Task.{FactoredTask, State, PlanFrom, move, price, total}
 use Rattle.ranking.specs.Comparison.{Comparison}
 

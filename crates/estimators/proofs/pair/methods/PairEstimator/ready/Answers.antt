@@ -1,4 +1,4 @@
-use Rattle.std.proofs.Common.{◌≡◌, true, sym, ap, ◌∙◌, mul-le-mul, arith}
+use Rattle.std.proofs.Common.{◌≡◌, true, sym, mul-le-mul, arith}
 use Rattle.lists.proofs.Nones.{get_d_nones}
 use Rattle.estimators.specs.Pairs.{apart}
 use Rattle.task.specs.Meaning.{meaning}
