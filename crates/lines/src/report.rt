@@ -5,8 +5,8 @@ ghost use Rattle.lines.specs.Lines.{call_report_text};
 ghost use Rattle.astar.specs.declared.refusal.CallReport.TheVariants.{Own};
 ghost use Rattle.lines.specs.Puts.{Puts};
 
-use astar::refusal::CallReport;
 use crate::put::{put_number, put_small, put_text};
+use astar::refusal::CallReport;
 use site::refusal::{Layer, Place, Report};
 
 // The word for a layer.

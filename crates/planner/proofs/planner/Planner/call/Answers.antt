@@ -4,7 +4,7 @@ use Rattle.astar.specs.declared.refusal.CallRefusal.TheVariants.{Empty, Busy, Id
 use Rattle.planner.specs.View.{view, phase_of}
 use Rattle.planner.specs.Calls.{call_of, Unchanged, LoadedFrom, Offered, Started}
 use Rattle.planner.proofs.Calling.{on_refused, on_load, on_offer, on_withdraw, on_start, on_work, on_stop, unchanged_self}
-use Rattle.planner.proofs.planner.Planner.call.Goals.{in-Loaded·, in-Ended·}
+use Rattle.planner.proofs.planner.Planner.call.Goals.{in-Loaded-1, in-Ended-1}
 use Rattle.planner.proofs.planner.Planner.call.Goals as goal
 
 pub returns-in-Empty-Load : goal.returns-in-Empty-Load
@@ -27,8 +27,8 @@ returns-in-Loaded-Work g c =
     let p = c.args.self.now in
     let m = c.match-self.self in
     let same : m ≡ p = elim c.match-self.branch [
-      | in-Loaded· w ↦ w.self-is
-      | in-Ended· w ↦ w.self-is
+      | in-Loaded-1 w ↦ w.self-is
+      | in-Ended-1 w ↦ w.self-is
     ] in
     let is : untimely (phase_of p.phase) (call_of c.args.call) ≡ Some Idle = search rules in
     let f = on_refused g.E.Estimator.value g.L.WaitingList.holds p m c.args.call Idle is (subst (Unchanged p) (sym same) (unchanged_self p)) in
@@ -40,8 +40,8 @@ returns-in-Loaded-Load g c =
     let m = c.match-self.self in
     let q = c.load-in-Loaded-Load.new.self in
     let same : m ≡ p = elim c.match-self.branch [
-      | in-Loaded· w ↦ w.self-is
-      | in-Ended· w ↦ w.self-is
+      | in-Loaded-1 w ↦ w.self-is
+      | in-Ended-1 w ↦ w.self-is
     ] in
     let is : untimely (phase_of p.phase) (call_of c.args.call) ≡ None = search rules in
     let f = on_load g.E.Estimator.value g.L.WaitingList.holds p q c.args.call c.in-Loaded-Load.bytes c.load-in-Loaded-Load.result c.in-Loaded-Load.is-1 is (subst (λ x. LoadedFrom g.E.Estimator.value g.L.WaitingList.holds x c.in-Loaded-Load.bytes.now c.load-in-Loaded-Load.result q) same c.load-in-Loaded-Load.ensures) in
@@ -53,8 +53,8 @@ returns-in-Loaded-Offer g c =
     let m = c.match-self.self in
     let q = c.offer.new.self in
     let same : m ≡ p = elim c.match-self.branch [
-      | in-Loaded· w ↦ w.self-is
-      | in-Ended· w ↦ w.self-is
+      | in-Loaded-1 w ↦ w.self-is
+      | in-Ended-1 w ↦ w.self-is
     ] in
     let is : untimely (phase_of p.phase) (call_of c.args.call) ≡ None = search rules in
     let f = on_offer g.E.Estimator.value g.L.WaitingList.holds p q c.args.call c.in-Loaded-Offer.bytes c.offer.result c.in-Loaded-Offer.is-1 is (subst (λ x. Offered g.E.Estimator.value g.L.WaitingList.holds x c.in-Loaded-Offer.bytes.now c.offer.result q) same c.offer.ensures) in
@@ -66,8 +66,8 @@ returns-in-Loaded-Withdraw g c =
     let m = c.match-self.self in
     let q = c.withdraw.new.self in
     let same : m ≡ p = elim c.match-self.branch [
-      | in-Loaded· w ↦ w.self-is
-      | in-Ended· w ↦ w.self-is
+      | in-Loaded-1 w ↦ w.self-is
+      | in-Ended-1 w ↦ w.self-is
     ] in
     let is : untimely (phase_of p.phase) (call_of c.args.call) ≡ None = search rules in
     let f = on_withdraw g.E.Estimator.value g.L.WaitingList.holds p q c.args.call c.withdraw.result c.in-Loaded-Withdraw.is-1 c.withdraw.ensures.accepted is (c.withdraw.ensures.after ∙ ap (λ x. with_ranking (view g.E.Estimator.value g.L.WaitingList.holds x) bare) same) in
@@ -79,8 +79,8 @@ returns-in-Loaded-Start g c =
     let m = c.match-self.self in
     let q = c.start.new.self in
     let same : m ≡ p = elim c.match-self.branch [
-      | in-Loaded· w ↦ w.self-is
-      | in-Ended· w ↦ w.self-is
+      | in-Loaded-1 w ↦ w.self-is
+      | in-Ended-1 w ↦ w.self-is
     ] in
     let is : untimely (phase_of p.phase) (call_of c.args.call) ≡ None = search rules in
     let f = on_start g.E.Estimator.value g.L.WaitingList.holds p q c.args.call c.start.result c.in-Loaded-Start.is-1 c.start.ensures.accepted is (subst (λ x. Started (view g.E.Estimator.value g.L.WaitingList.holds x) (view g.E.Estimator.value g.L.WaitingList.holds q)) same c.start.ensures.after) in

@@ -8,13 +8,13 @@ use Rattle.planner.proofs.planner.Planner.cost.Goals as goal
 pub returns-in_default : goal.returns-in_default
 returns-in_default g c =
     let p = c.args.self.now in
-    record { exact = (refl, no_cost (view g.E.Estimator.value g.L.WaitingList.holds p) p.phase (sym c.plan-end.ensures ∙ c.in_default.is)); cheapest = tt }
+    record { exact = (refl, no_cost (view g.E.Estimator.value g.L.WaitingList.holds p) p.phase (sym c.plan_end.ensures ∙ c.in_default.is)); cheapest = tt }
 
 pub returns : goal.returns
 returns g c =
     let p = c.args.self.now in
     let m = view g.E.Estimator.value g.L.WaitingList.holds p in
-    let is = end_phase p.phase c.in-Some.end (sym c.plan-end.ensures ∙ c.in-Some.is) in
+    let is = end_phase p.phase c.in-Some.end (sym c.plan_end.ensures ∙ c.in-Some.is) in
     let exact : result m ≡ Some (Some c.cost_at.result) = ap (λ ph. result_of m (phase_of ph)) is ∙ ap (λ x. Some (Some x)) (sym c.cost_at.ensures) in
     record {
       exact = exact;
