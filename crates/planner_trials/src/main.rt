@@ -1,7 +1,6 @@
 // Trials: the estimators beside distances that are found by rounds of relaxation, and the planner on worked examples.
 #![tactic(auto)]
 
-
 mod calls;
 mod estimates;
 mod phases;

@@ -2,7 +2,7 @@
 use crate::calls::{start, stop, withdraw, work};
 use crate::samples::{RANKING, SITE};
 use crate::visits::{Visit, visit};
-use astar::refusal::CallRefusal;
+use astar::refusal::{CallRefusal, CallReport};
 use planner::call::Call;
 use planner::phase::Phase;
 
@@ -30,7 +30,10 @@ where
 {
     match answer {
         Ok(_) => 0,
-        Err(refusal) => refusal.report().number,
+        Err(refusal) => match refusal.report() {
+            CallReport::File(report) => report.number,
+            CallReport::Own(number) => number,
+        },
     }
 }
 
