@@ -16,8 +16,7 @@ fn main(rt: HostRuntime) -> anyhow::Result<()> {
 }
 
 fn run(rt: &HostRuntime) -> anyhow::Result<()> {
-    let count = worked::worked();
-    println!(rt; "{count} worked examples\n")?;
+    worked::try_worked_sites(rt)?;
     estimates::try_worked(rt)?;
     estimates::try_random(rt)?;
     try_planner(rt)
