@@ -1,4 +1,4 @@
--- The number, the layer and the place of each refusal of a call. Assumes nothing.
+-- How each refusal of a call is reported: that of its file as its file's, and each of the planner's own by its number. Assumes nothing.
 use Rattle.site.specs.Reports.{report_of}
 use Rattle.astar.specs.declared.refusal.CallRefusal.{CallRefusal}
 use Rattle.astar.specs.declared.refusal.CallReport.{CallReport}

@@ -17,7 +17,7 @@ verdict_text Plan = codes "plan"
 verdict_text NoPlan = codes "none"
 verdict_text Full = codes "full"
 
--- a refusal of a call: the planner's own name no place
+-- a refusal of a call; the planner's own have the layer `planner` and the place 0
 abbrev pub call_report_text : CallReport → List ℕ
 call_report_text (File r) = report_text r
 call_report_text (Own number) = codes "refused " ++ (decimal number ++ codes " planner 0")
