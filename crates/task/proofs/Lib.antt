@@ -1,3 +1,3 @@
+pub mod Blank
 pub mod Moving
-pub mod Past
 pub mod Standing
