@@ -13,6 +13,9 @@ use items::{count_items, report_items, verdict_items};
 // How many bytes a row has: no line is longer.
 pub const ROW: usize = 64;
 
+// How many bytes a line has before its end, at most.
+const ITEMS: usize = ROW - 1;
+
 // What a visit ends with.
 #[derive(Clone, Copy, Debug, PartialEq, Eq)]
 pub enum Verdict {
@@ -62,17 +65,16 @@ impl Line {
         ensures fits { result ≤ row_limit }
         ensures bytes { row.new ≡ line_text self ++ drop (length (line_text self)) row.old }
     {
-        let mut text = self.items();
-        text.push('\n');
-        let end = text.len();
-        row[..end].copy_from_slice(text.as_bytes());
-        end
+        let items = self.items();
+        let end = items.len();
+        row[end] = b'\n';
+        row[..end].copy_from_slice(items.as_bytes());
+        end + 1
     }
 
     // What the line says, but for its end.
-    fn items(self) -> ArrayString<ROW>
-        ensures items { result.bytes ≡ items_text self }
-        ensures short { length result.bytes < row_limit }
+    fn items(self) -> ArrayString<ITEMS>
+        ensures { result.bytes ≡ items_text self }
     {
         match self {
             Line::Verdict(verdict) => verdict_items(verdict),
