@@ -61,7 +61,7 @@ pub(crate) fn report_items(report: CallReport) -> ArrayString<ITEMS>
     text
 }
 
-// Appends the place: an offset, or a factor, two facts and a label.
+// Appends the place, of at most 20 bytes: an offset, or a factor, two facts and a label.
 fn append_place(text: &mut ArrayString<ITEMS>, place: Place)
     requires { length text.old.bytes + 20 < row_limit }
     ensures { text.new.bytes ≡ text.old.bytes ++ place_text place }

@@ -64,7 +64,7 @@ fn print_plan(rt: &HostRuntime, planner: &Visit) -> anyhow::Result<()> {
     Ok(())
 }
 
-// The verdict of a run, which is no plan as long as none has ended.
+// The verdict on how the run ended. Without a run that ended there is no plan.
 fn verdict(word: Option<Word>) -> Verdict {
     match word {
         Some(Word::Plan { .. }) => Verdict::Plan,
