@@ -3,20 +3,21 @@
 
 ghost use Rattle.std.specs.Prelude.{◌≡◌, ◌<◌, ◌≤◌, ◌++◌, length, drop};
 ghost use Rattle.lines.specs.Lines.{row_limit, verdict_text, items_text, line_text};
-ghost use Rattle.lines.specs.Puts.{Puts};
 
-mod put;
-mod report;
+mod items;
 
+use arrayvec::ArrayString;
 use astar::refusal::CallReport;
-use put::{put_count, put_text};
-use report::put_call_report;
+use items::{count_items, report_items, verdict_items};
 
 // How many bytes a row has: no line is longer.
 pub const ROW: usize = 64;
 
+// How many bytes a line has before its end, at most.
+const ITEMS: usize = ROW - 1;
+
 // What a visit ends with.
-#[derive(Clone, Copy)]
+#[derive(Clone, Copy, Debug, PartialEq, Eq)]
 pub enum Verdict {
     // A plan was found.
     Plan,
@@ -28,14 +29,13 @@ pub enum Verdict {
 
 impl Verdict {
     // The word for the verdict.
-    fn word(self) -> &'static [u8]
-        ensures word { result.now ≡ verdict_text self }
-        ensures short { length result.now ≤ 4 }
+    fn word(self) -> &'static str
+        ensures { result.now ≡ verdict_text self }
     {
         match self {
-            Verdict::Plan => b"plan",
-            Verdict::NoPlan => b"none",
-            Verdict::Full => b"full",
+            Verdict::Plan => "plan",
+            Verdict::NoPlan => "none",
+            Verdict::Full => "full",
         }
     }
 }
@@ -65,27 +65,25 @@ impl Line {
         ensures fits { result ≤ row_limit }
         ensures bytes { row.new ≡ line_text self ++ drop (length (line_text self)) row.old }
     {
-        let end = self.put_items(row);
-        put_text(row, end, b"\n")
+        let items = self.items();
+        let end = items.len();
+        row[end] = b'\n';
+        row[..end].copy_from_slice(items.as_bytes());
+        end + 1
     }
 
-    // Writes what the line says, but for its end.
-    fn put_items(self, row: &mut [u8]) -> usize
-        requires { row_limit ≤ length row.old }
-        ensures puts { Puts (items_text self) row.old 0 row.new result }
-        ensures short { result < row_limit }
+    // What the line says, but for its end.
+    fn items(self) -> ArrayString<ITEMS>
+        ensures { result.bytes ≡ items_text self }
     {
         match self {
-            Line::Verdict(verdict) => {
-                let end = put_text(row, 0, b"verdict ");
-                put_text(row, end, verdict.word())
-            }
-            Line::Cost(cost) => put_count(row, b"cost ", cost as u64),
-            Line::Step(label) => put_count(row, b"step ", label as u64),
-            Line::Taken(taken) => put_count(row, b"taken ", taken as u64),
-            Line::Entries(entries) => put_count(row, b"entries ", entries as u64),
-            Line::Tried(tried) => put_count(row, b"tried ", tried as u64),
-            Line::Refused(report) => put_call_report(row, report),
+            Line::Verdict(verdict) => verdict_items(verdict),
+            Line::Cost(cost) => count_items("cost ", cost),
+            Line::Step(label) => count_items("step ", label),
+            Line::Taken(taken) => count_items("taken ", taken),
+            Line::Entries(entries) => count_items("entries ", entries),
+            Line::Tried(tried) => count_items("tried ", tried),
+            Line::Refused(report) => report_items(report),
         }
     }
 }

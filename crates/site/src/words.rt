@@ -1,19 +1,28 @@
 // How a refusal is written.
-ghost use Rattle.std.specs.Prelude.{Some};
+ghost use Rattle.std.specs.Prelude.{◌≡◌, Some};
 ghost use Rattle.site.specs.Words.{layer_text, place_text, report_text};
 
 use crate::refusal::{Layer, Place, Report};
 use std::fmt;
 
+impl Layer {
+    // The word for the layer.
+    pub fn word(self) -> &'static str
+        ensures { result.now ≡ layer_text self }
+    {
+        match self {
+            Layer::Reader => "reader",
+            Layer::Site => "site",
+            Layer::Ranking => "ranking",
+        }
+    }
+}
+
 impl fmt::Display for Layer {
     ghost output = { λ l. Some (layer_text l) };
 
     fn fmt<W: fmt::Write>(&self, f: &mut fmt::Formatter<W>) -> fmt::Result {
-        match self {
-            Layer::Reader => write!(f, "reader"),
-            Layer::Site => write!(f, "site"),
-            Layer::Ranking => write!(f, "ranking"),
-        }
+        f.write_str(self.word())
     }
 }
 

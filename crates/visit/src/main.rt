@@ -1,7 +1,6 @@
 // visit < INPUT: plans a visit. The input holds a site file and a ranking, each behind two bytes of length.
 #![tactic(auto)]
 
-use astar::refusal::CallRefusal;
 use estimators::greater::Greater;
 use estimators::longest::Longest;
 use estimators::pair::Pair;
@@ -24,43 +23,30 @@ const TAKES: u16 = 64;
 // So many orders end every run: it takes each of its entries once at most.
 const ORDERS: u16 = 17;
 
-// The checker asks that a value that may hold a reference be read after it is made, so the calls without a file come from functions.
-fn start() -> Call<'static> {
-    Call::Start
-}
-
-fn order() -> Call<'static> {
-    Call::Work(TAKES)
-}
-
 fn print_line(rt: &HostRuntime, line: Line) -> anyhow::Result<()> {
     let mut row = [0; ROW];
     let length = line.write(&mut row);
-    if let Some(text) = row.get(0..length) {
-        rt.stdout().write_all(text)?;
-    }
+    rt.stdout().write_all(&row[..length])?;
     Ok(())
 }
 
-fn print_refusal(rt: &HostRuntime, refusal: CallRefusal) -> anyhow::Result<()> {
-    print_line(rt, Line::Refused(refusal.report()))
+// Makes a call, and reports it if it is refused.
+fn ask(rt: &HostRuntime, planner: &mut Visit, call: Call<'_>) -> anyhow::Result<()> {
+    match planner.call(call) {
+        Ok(()) => Ok(()),
+        Err(refusal) => print_line(rt, Line::Refused(refusal.report())),
+    }
 }
 
 // Offers the ranking, if there is one, and runs to the end. A refused ranking is reported, and the run goes without it.
 fn run(rt: &HostRuntime, planner: &mut Visit, ranking: &[u8]) -> anyhow::Result<()> {
-    if !ranking.is_empty()
-        && let Err(refusal) = planner.call(Call::Offer(ranking))
-    {
-        print_refusal(rt, refusal)?;
+    if !ranking.is_empty() {
+        ask(rt, planner, Call::Offer(ranking))?;
     }
-    if let Err(refusal) = planner.call(start()) {
-        print_refusal(rt, refusal)?;
-    }
+    ask(rt, planner, Call::Start)?;
     for _ in 0..ORDERS {
-        if let Phase::Running = planner.phase()
-            && let Err(refusal) = planner.call(order())
-        {
-            print_refusal(rt, refusal)?;
+        if let Phase::Running = planner.phase() {
+            ask(rt, planner, Call::Work(TAKES))?;
         }
     }
     Ok(())
@@ -72,22 +58,23 @@ fn print_plan(rt: &HostRuntime, planner: &Visit) -> anyhow::Result<()> {
         return Ok(());
     };
     print_line(rt, Line::Cost(cost))?;
-    for position in 0..u16::MAX {
-        let Ok(label) = planner.label(position) else {
-            break;
-        };
+    for label in (0..u16::MAX).map_while(|position| planner.label(position).ok()) {
         print_line(rt, Line::Step(label))?;
     }
     Ok(())
 }
 
-fn print_result(rt: &HostRuntime, planner: &Visit) -> anyhow::Result<()> {
-    let verdict = match planner.word() {
-        Some(Word::Plan { end: _ }) => Verdict::Plan,
+// The verdict on how the run ended. Without a run that ended there is no plan.
+fn verdict(word: Option<Word>) -> Verdict {
+    match word {
+        Some(Word::Plan { .. }) => Verdict::Plan,
+        Some(Word::NoPlan) | None => Verdict::NoPlan,
         Some(Word::Full) => Verdict::Full,
-        _ => Verdict::NoPlan,
-    };
-    print_line(rt, Line::Verdict(verdict))?;
+    }
+}
+
+fn print_result(rt: &HostRuntime, planner: &Visit) -> anyhow::Result<()> {
+    print_line(rt, Line::Verdict(verdict(planner.word())))?;
     print_plan(rt, planner)?;
     let counts = planner.counts();
     print_line(rt, Line::Taken(counts.taken))?;
@@ -103,7 +90,7 @@ fn main(rt: HostRuntime) -> anyhow::Result<()> {
     let pair = Pair::new(DistanceHeap::new(), 0, 1);
     let mut planner = Planner::new(Greater::new(longest, pair), SearchHeap::new());
     if let Err(refusal) = planner.call(Call::Load(site)) {
-        return print_refusal(&rt, refusal);
+        return print_line(&rt, Line::Refused(refusal.report()));
     }
     run(&rt, &mut planner, ranking)?;
     print_result(&rt, &planner)
