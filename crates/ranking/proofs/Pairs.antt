@@ -20,7 +20,8 @@ use Rattle.ranking.specs.declared.order.Above.{Above}
 use Rattle.ranking.specs.declared.order.Order.{Order}
 use Rattle.ranking.specs.declared.order.Ranking.{Ranking}
 use Rattle.task.specs.declared.task.Task.{Task}
-use Rattle.site.proofs.Changing.{set_puts, get_d_either}
+use Rattle.task.proofs.Blank.{get_d_either}
+use Rattle.site.proofs.Changing.{set_puts}
 use Rattle.site.proofs.Reading as reading
 
 abbrev past_above : Above

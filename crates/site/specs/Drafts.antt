@@ -1,5 +1,5 @@
--- What a draft of the code describes. Assumes nothing.
-use Rattle.std.specs.Prelude.{◌≡◌, ℕ, ◌<◌, ◌≤◌, false, cond, T, List, ◌++◌, Some, None, Ok, Err, Option, Result, slice_index_or}
+-- What the tables of a draft describe. Assumes nothing.
+use Rattle.std.specs.Prelude.{◌≡◌, ℕ, ◌<◌, ◌≤◌, T, List, ◌++◌, Some, None, Ok, Err, Result, slice_index_or}
 use Rattle.task.specs.Limits.{factor_limit, fact_limit, label_limit}
 use Rattle.task.specs.Tables.{part, row, entry, within}
 use Rattle.std.specs.Borrow.{Bor}
@@ -8,17 +8,9 @@ use Rattle.site.specs.SiteFile.{Described, adds, describes, fault_of, bytes_of, 
 use Rattle.site.specs.declared.command.Command.{Command}
 use Rattle.site.specs.declared.refusal.Fault.{Fault}
 use Rattle.site.specs.declared.refusal.Refusal.{Refusal}
-use Rattle.site.specs.declared.draft.Draft.{Draft}
-use Rattle.site.specs.declared.draft.Price.{Price}
+use Rattle.site.specs.declared.tables.Tables.{Tables}
 
--- a cost, if it is given; past the end none is
-abbrev pub price_of : Price → Option ℕ
-price_of p = cond p.given (Some p.cost) None
-
-abbrev pub unpriced : Price
-unpriced = record { given = false; cost = 0 }
-
-abbrev pub described : Draft → Described
+abbrev pub described : Tables → Described
 described d = record {
   factors = d.factors;
   labels = d.labels;
@@ -26,7 +18,7 @@ described d = record {
   facts = λ j. (part d.parts j).facts;
   start = λ j. (part d.parts j).start;
   goal = λ j x. (row (part d.parts j) x).goal;
-  cost = λ l. price_of (slice_index_or d.costs l unpriced);
+  cost = λ l. slice_index_or d.costs l None;
   moves = λ j l x. entry (part d.parts j) l x;
 }
 

@@ -6,7 +6,7 @@ use Rattle.site.specs.declared.command.Command.{Command}
 use Rattle.site.proofs.draft.Draft.fill.Given as goal
 
 abbrev pub invariant-loop-taken : goal.invariant-loop-taken
-invariant-loop-taken l = (before : List Command) × Came site_file l.bytes before l.rest × (described l.self ≡ describes before)
+invariant-loop-taken l = (before : List Command) × Came site_file l.bytes before l.rest × (described l.self.tables ≡ describes before)
 
 abbrev pub decreases-loop-taken : goal.decreases-loop-taken
 decreases-loop-taken l = length l.rest

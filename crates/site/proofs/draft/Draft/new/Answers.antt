@@ -1,5 +1,5 @@
-use Rattle.site.proofs.Drafting.{fresh_describes}
+use Rattle.site.proofs.Limiting.{none_limited}
 use Rattle.site.proofs.draft.Draft.new.Goals as goal
 
-pub returns : goal.returns
-returns c = fresh_describes
+pub invariant_of-result : goal.invariant_of-result
+invariant_of-result c = record { limited = rw c.new.ensures none_limited }
