@@ -33,16 +33,3 @@ pub record Limited (t : Described) : Type 0 where
   pub starts : (j : ℕ) → j < t.declared → t.start j < t.facts j
   pub lands : (j l x : ℕ) → T (within (t.moves j l x) (t.facts j))
   pub costs : (l : ℕ) → label_limit < l → t.cost l ≡ None
-
--- What comes of a command, of the first command of some bytes, and of a whole file: t is described before, and u after.
-abbrev pub Taken : Described → Command → Described → Result Unit Fault → Type 0
-Taken t c u (Ok _) = (fault_of t c ≡ None) × (u ≡ adds c t)
-Taken t c u (Err fault) = fault_of t c ≡ Some fault
-
-abbrev pub TakenFirst : Described → List ℕ → Described → Result (Command × Bor (List ℕ)) Fault → Type 0
-TakenFirst t bytes u (Ok p) = (bytes ≡ bytes_of p.0 ++ p.1.now) × (fault_of t p.0 ≡ None) × (u ≡ adds p.0 t)
-TakenFirst t bytes u (Err fault) = Faulty site_file (fault_of t) bytes fault
-
-abbrev pub Filled : List ℕ → Described → Result ℕ Refusal → Type 0
-Filled bytes u (Ok place) = (e : Ended site_file bytes place) × (u ≡ describes e.before)
-Filled bytes u (Err refusal) = StoppedBy site_file bytes refusal

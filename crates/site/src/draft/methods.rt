@@ -2,25 +2,18 @@
 ghost use Rattle.std.specs.Prelude.{◌≡◌, ℕ, ◌<◌, ◌≤◌, true, false, is_some, Decides, slice_index};
 ghost use Rattle.std.specs.Option.{unwrap_or};
 ghost use Rattle.task.specs.Meaning.{meaning};
-ghost use Rattle.site.specs.SiteFile.{nothing, some, misplaced, outside, repeated, has_label, has_fact, early, task, Priced};
-ghost use Rattle.site.specs.Drafts.{described, Taken, TakenFirst, Filled};
+ghost use Rattle.site.specs.SiteFile.{some, misplaced, outside, repeated, has_label, has_fact, early, task, describes, site_file, spelled, Priced};
+ghost use Rattle.site.specs.Drafts.{described};
 
 use super::Draft;
 use crate::command::Command;
-use crate::refusal::{Fault, Refusal};
+use crate::commands::FromCommands;
+use crate::refusal::Fault;
 use crate::tables::Tables;
 use task::limits::{FACTORS, FACTS, LABEL_SLOTS, LABELS};
 use task::task::Task;
 
 impl Draft {
-    pub(crate) fn new() -> Draft
-        ensures { described result.tables ≡ nothing }
-    {
-        Draft {
-            tables: Tables::new(),
-        }
-    }
-
     // Whether a command comes too early or too late.
     fn misplaced(&self, command: Command) -> bool
         ensures { result ≡ misplaced (described self.now.tables) command }
@@ -116,51 +109,6 @@ impl Draft {
         }
     }
 
-    // Takes the next command, unless it has a fault.
-    fn take(&mut self, command: Command) -> Result<(), Fault>
-        ensures { Taken (described self.old.tables) command (described self.new.tables) result }
-    {
-        if self.misplaced(command) {
-            return Err(Fault::Misplaced);
-        }
-        if self.outside(command) {
-            return Err(Fault::OutOfRange);
-        }
-        if self.repeated(command) {
-            return Err(Fault::Repeated);
-        }
-        self.tables.add(command);
-        Ok(())
-    }
-
-    // Takes the first command of the bytes, and gives it with what follows it.
-    fn take_first<'a>(&mut self, bytes: &'a [u8]) -> Result<(Command, &'a [u8]), Fault>
-        ensures { TakenFirst (described self.old.tables) bytes.now (described self.new.tables) result }
-    {
-        let (command, rest) = Command::next(bytes)?;
-        self.take(command)?;
-        Ok((command, rest))
-    }
-
-    // Takes the commands of a file up to its end, and gives the offset of the end's letter.
-    pub(crate) fn fill(&mut self, bytes: &[u8]) -> Result<usize, Refusal>
-        requires { described self.old.tables ≡ nothing }
-        ensures { Filled bytes.now (described self.new.tables) result }
-    {
-        let mut rest = bytes;
-        loop {
-            let at = bytes.len() - rest.len();
-            let (command, after) = match self.take_first(rest) {
-                Ok(taken) => taken,
-                Err(fault) => return Err(Refusal::File { fault, at }),
-            };
-            if let Command::End = command {
-                return Ok(at);
-            }
-            rest = after;
-        }
-    }
-
     // Whether each label has a cost.
     pub(crate) fn priced(&self) -> bool
         ensures { Decides result (Priced (described self.now.tables)) }
@@ -193,5 +141,47 @@ impl Draft {
             costs: self.prices(),
             parts: self.tables.parts,
         }
+    }
+}
+
+impl FromCommands<()> for Draft {
+    type Command = Command;
+
+    ghost format = { λ _. site_file };
+
+    ghost spelled = { λ _. spelled };
+
+    ghost holds = { λ draft cs. described draft.tables ≡ describes cs };
+
+    fn new() -> Draft {
+        Draft {
+            tables: Tables::new(),
+        }
+    }
+
+    fn next(bytes: &[u8]) -> Result<(Command, &[u8]), Fault> {
+        Command::next(bytes)
+    }
+
+    fn take(&mut self, _of: &(), command: Command) -> Result<(), Fault> {
+        if self.misplaced(command) {
+            return Err(Fault::Misplaced);
+        }
+        if self.outside(command) {
+            return Err(Fault::OutOfRange);
+        }
+        if self.repeated(command) {
+            return Err(Fault::Repeated);
+        }
+        self.tables.add(command);
+        Ok(())
+    }
+
+    fn is_end(command: Command) -> bool {
+        matches!(command, Command::End)
+    }
+
+    fn is_whole(&self, _of: &()) -> bool {
+        self.priced()
     }
 }

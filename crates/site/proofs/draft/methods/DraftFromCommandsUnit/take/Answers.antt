@@ -1,6 +1,6 @@
 use Rattle.std.proofs.Common.{sym, ◌∙◌}
 use Rattle.site.proofs.Limiting.{kept}
-use Rattle.site.proofs.draft.Draft.take.Goals as goal
+use Rattle.site.proofs.draft.methods.DraftFromCommandsUnit.take.Goals as goal
 
 pub invariant_of-self : goal.invariant_of-self
 invariant_of-self c = record {
