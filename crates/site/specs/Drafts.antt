@@ -1,13 +1,8 @@
 -- What the tables of a draft describe. Assumes nothing.
-use Rattle.std.specs.Prelude.{◌≡◌, ℕ, ◌<◌, ◌≤◌, T, List, ◌++◌, Some, None, Ok, Err, Result, slice_index_or}
+use Rattle.std.specs.Prelude.{◌≡◌, ℕ, ◌<◌, ◌≤◌, T, None, slice_index_or}
 use Rattle.task.specs.Limits.{factor_limit, fact_limit, label_limit}
 use Rattle.task.specs.Tables.{part, row, entry, within}
-use Rattle.std.specs.Borrow.{Bor}
-use Rattle.site.specs.Files.{Faulty, Ended, StoppedBy}
-use Rattle.site.specs.SiteFile.{Described, adds, describes, fault_of, bytes_of, site_file}
-use Rattle.site.specs.declared.command.Command.{Command}
-use Rattle.site.specs.declared.refusal.Fault.{Fault}
-use Rattle.site.specs.declared.refusal.Refusal.{Refusal}
+use Rattle.site.specs.SiteFile.{Described}
 use Rattle.site.specs.declared.tables.Tables.{Tables}
 
 abbrev pub described : Tables → Described
