@@ -36,7 +36,7 @@ impl CallRefusal {
         ensures { result ≡ call_report_of self }
     {
         match self {
-            CallRefusal::Input(refusal) => CallReport::File(refusal.report()),
+            CallRefusal::Input(refusal) => CallReport::File(Report::from(refusal)),
             CallRefusal::NoTakes => CallReport::Own(12),
             CallRefusal::PastPlan => CallReport::Own(13),
             CallRefusal::Empty => CallReport::Own(21),

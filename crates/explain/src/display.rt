@@ -5,7 +5,7 @@ ghost use Rattle.explain.specs.Texts.{line_text, location_text};
 use crate::advice::{advice, complaint};
 use crate::explanation::{Explanation, Line, Location};
 use ranking::judge::Judgement;
-use site::refusal::Refusal;
+use site::refusal::{Refusal, Report};
 use std::fmt;
 
 impl fmt::Display for Line {
@@ -15,7 +15,7 @@ impl fmt::Display for Line {
         match self.0 {
             Judgement::Accepted => write!(f, "accepted"),
             Judgement::SiteRefused(refusal) | Judgement::RankingRefused(refusal) => {
-                let report = refusal.report();
+                let report = Report::from(refusal);
                 write!(f, "{report}")
             }
         }

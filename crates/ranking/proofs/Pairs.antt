@@ -1,27 +1,26 @@
 -- What is listed in a ranking.
-use Rattle.std.proofs.Common.{◌≡◌, ℕ, ◌+◌, ◌-◌, ◌<◌, ◌≤◌, Bool, true, false, ◌&&◌, T, eqb, ltb, ◌⊎◌, List, [], ◌∷◌, ◌++◌, length, set, replicate, None, Decides, sym, refl, ap, ◌∙◌, subst, inl, inr, arith}
+use Rattle.std.proofs.Common.{◌≡◌, ℕ, ◌+◌, ◌<◌, Bool, true, false, ◌&&◌, T, eqb, ltb, ◌⊎◌, List, [], ◌∷◌, length, set, replicate, None, Ok, Err, Result, MatchResult, Decides, sym, refl, ap, ◌∙◌, subst, inl, inr, arith}
 use mathlib.Core.Path.{fun_ext}
-use Rattle.std.proofs.lemmas.List.{get_or-replicate}
 use Rattle.std.proofs.lemmas.Bool.{cases_eq}
 use Rattle.std.proofs.lemmas.Bool.Decides.{nat_tests}
-use Rattle.site.specs.Files.{file_limit, Came, Ended, Among}
+use Rattle.site.specs.Files.{Among, ReadInto, Rejected}
+use Rattle.site.specs.declared.refusal.Refusal.{Refusal}
 use Rattle.task.specs.Limits.{factor_limit, fact_limit}
 use Rattle.task.specs.Meaning.{meaning}
-use Rattle.ranking.specs.Meaning.{relation}
 use Rattle.ranking.specs.Tables.{above, order, rank, Reflexive}
 use Rattle.ranking.specs.Ranking as ranking
 use Rattle.ranking.specs.Reading.{Listed, RankingRead}
 use Rattle.site.specs.Changes.{put}
 use Rattle.task.specs.Task.{FactoredTask}
-use Rattle.ranking.specs.RankingFile.{bytes_of, knows, fault_of, ranking_file, lists}
+use Rattle.ranking.specs.RankingFile.{knows, fault_of, ranking_file, lists}
 use Rattle.ranking.specs.declared.listing.Listing.{Listing}
-use Rattle.ranking.specs.declared.listing.Listing.TheVariants.{Pair, End}
+use Rattle.ranking.specs.declared.listing.Listing.TheVariants.{Pair}
 use Rattle.ranking.specs.declared.order.Above.{Above}
 use Rattle.ranking.specs.declared.order.Order.{Order}
 use Rattle.ranking.specs.declared.order.Ranking.{Ranking}
 use Rattle.task.specs.declared.task.Task.{Task}
-use Rattle.site.proofs.Changing.{set_puts, get_d_either}
-use Rattle.site.proofs.Reading as reading
+use Rattle.task.proofs.Blank.{get_d_either}
+use Rattle.site.proofs.Changing.{set_puts}
 
 abbrev past_above : Above
 past_above = record { facts = [] }
@@ -49,13 +48,6 @@ pub identity_more : (f g : ℕ → ℕ → Bool) (n : ℕ) → ((a b : ℕ) → 
     → (a b : ℕ) → g a b ≡ (eqb a b && ltb a (n + 1))
 identity_more f g n h e a b = let p = h a b in let q = h n b in ap (λ (k : ℕ → ℕ → Bool). k a b) e ∙ grind (arith, nat_tests)
 
-pub identity_all : (o : Order) → ((a b : ℕ) → order o a b ≡ (eqb a b && ltb a fact_limit))
-    → (j a b : ℕ) → j < factor_limit → a < fact_limit → Decides (rank (replicate factor_limit o) j a b) ((a ≡ b) ⊎ Among (Pair j a b) [])
-identity_all o h j a b jl al =
-    let e : rank (replicate factor_limit o) j a b ≡ order o a b = ap (λ (p : Order). order p a b) (get_or-replicate factor_limit j o past_order jl) in
-    let s : Decides (order o a b) (a ≡ b) = let p = h a b in (λ t. grind (arith, nat_tests), λ t. grind (arith, nat_tests)) in
-    (λ t. inl (s.0 (sym e ∙ t)), λ w. elim w [ inl q ↦ e ∙ s.1 q | inr q ↦ absurd q ])
-
 passes : (b : Bool) → b ≡ true → T b
 passes b e = subst T (sym e) tt
 
@@ -79,11 +71,15 @@ own_kept parts i x y o h e own j a jl al =
     let at : rank (set parts i o) j a a ≡ lists (Pair i x y) (rank parts) j a a = ap (λ (f : ranking.Ranking). f j a a) (rank_listed parts i x y o h e) in
     elim (listed_at (rank parts) i x y j a a) [ inl p ↦ passes _ (at ∙ p.3) | inr p ↦ subst T (sym (at ∙ p.1)) (own j a jl al) ]
 
-pair_more : (cs : List Listing) (i x y : ℕ) (k k' : Ranking) → Listed cs k → relation k' ≡ lists (Pair i x y) (relation k) → Listed (Pair i x y ∷ cs) k'
-pair_more cs i x y k k' h e j a b jl al =
-    let at : relation k' j a b ≡ lists (Pair i x y) (relation k) j a b = ap (λ (f : ranking.Ranking). f j a b) e in
+-- what `Listed` says of a ranking's relation
+abbrev Lists : List Listing → ranking.Ranking → Type 0
+Lists cs r = (j a b : ℕ) → j < factor_limit → a < fact_limit → Decides (r j a b) ((a ≡ b) ⊎ Among (Pair j a b) cs)
+
+pub pair_more : (cs : List Listing) (i x y : ℕ) (r r' : ranking.Ranking) → Lists cs r → r' ≡ lists (Pair i x y) r → Lists (Pair i x y ∷ cs) r'
+pair_more cs i x y r r' h e j a b jl al =
+    let at : r' j a b ≡ lists (Pair i x y) r j a b = ap (λ (f : ranking.Ranking). f j a b) e in
     let d = h j a b jl al in
-    elim (listed_at (relation k) i x y j a b) [
+    elim (listed_at r i x y j a b) [
       | inl p ↦ let s : Pair i x y ≡ Pair j a b = let u = p.0 in let v = p.1 in let w = p.2 in cc in (λ _. inr (inl s), λ _. at ∙ p.3)
       | inr p ↦ (
         λ t. elim (d.0 (sym (at ∙ p.1) ∙ t)) [ inl s ↦ inl s | inr s ↦ inr (inr s) ],
@@ -97,44 +93,14 @@ pair_more cs i x y k k' h e j a b jl al =
       )
     ]
 
-end_more : (cs : List Listing) (k k' : Ranking) → Listed cs k → relation k' ≡ relation k → Listed cs k'
-end_more cs k k' h e j a b jl al =
-    let at : relation k' j a b ≡ relation k j a b = ap (λ (f : ranking.Ranking). f j a b) e in
-    let d = h j a b jl al in
-    (λ t. d.0 (sym at ∙ t), λ w. at ∙ d.1 w)
-
-listed_more : (cs : List Listing) (c : Listing) (k k' : Ranking) → Listed cs k → relation k' ≡ lists c (relation k) → (c ≡ End → ⊥) → Listed (c ∷ cs) k'
-listed_more cs (Pair i x y) k k' h e n = pair_more cs i x y k k' h e
-listed_more cs End k k' h e n = absurd (n refl)
-
-some_bytes : (c : Listing) → 0 < length (bytes_of c)
-some_bytes (Pair i x y) = omega arith
-some_bytes End = omega arith
-
-pub taken_less : (t : FactoredTask) (rest after : List ℕ) (c : Listing) → rest ≡ bytes_of c ++ after → length after < length rest
-taken_less t rest after c e = reading.taken_less (ranking_file t) rest after c (some_bytes c) e
-
-module _ (t : FactoredTask) (bytes rest : List ℕ) (before : List Listing) (k : Ranking) (h : Came (ranking_file t) bytes before rest) (p : Listed before k) where
-  pub taken_more : (after : List ℕ) (c : Listing) (k' : Ranking)
-      → (rest ≡ bytes_of c ++ after) × (fault_of t c ≡ None) × (relation k' ≡ lists c (relation k)) → (c ≡ End → ⊥)
-      → (cs : List Listing) × Came (ranking_file t) bytes cs after × Listed cs k'
-  taken_more after c k' e n =
-      (c ∷ before, reading.came_more (ranking_file t) bytes rest after before c h e.0 e.1 n, listed_more before c k k' p e.2 n)
-
-  pub taken_end : (after : List ℕ) (c : Listing) (k' : Ranking)
-      → (rest ≡ bytes_of c ++ after) × (fault_of t c ≡ None) × (relation k' ≡ lists c (relation k)) → c ≡ End
-      → (x : Ended (ranking_file t) bytes (length bytes - length rest)) × Listed x.before k'
-  taken_end after c k' e n = (
-    reading.came_end (ranking_file t) bytes rest after before h (rw n at e.0) (rw n at e.1),
-    end_more before k k' p (rw n at e.2),
-  )
-
-pub ended_read : (t : Task) (bytes : List ℕ) (n : ℕ) (e : Ended (ranking_file (meaning t)) bytes n) (k : Ranking) → Listed e.before k
-    → length bytes ≤ file_limit → length bytes ≤ n + 1 → RankingRead t bytes k
-ended_read t bytes n e k p h all = record {
-  accepted = reading.ended_accepted (ranking_file (meaning t)) refl bytes n e h tt all;
-  means = λ j a b jl al bl. let few = t.few in let small = t.small j jl in p j a b (omega arith) (omega arith);
-}
-
 pub known_fine : (t : FactoredTask) (j a b : ℕ) → true ≡ knows t j a → true ≡ knows t j b → fault_of t (Pair j a b) ≡ None
 known_fine t j a b p q = rw (← p, ← q) refl
+
+-- what the reader of files says, for a ranking file
+pub read_into : (t : Task) (bytes : List ℕ) (r : Result Ranking Refusal) → ReadInto (ranking_file (meaning t)) (λ k cs. Listed cs k) bytes r
+    → MatchResult r (λ k. RankingRead t bytes k) (λ refusal. Rejected (ranking_file (meaning t)) bytes refusal)
+read_into t bytes (Ok k) w = record {
+  accepted = w.0;
+  means = λ j a b jl al bl. let few = t.few in let small = t.small j jl in w.1 j a b (omega arith) (omega arith);
+}
+read_into t bytes (Err refusal) w = w

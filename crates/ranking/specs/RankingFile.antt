@@ -1,8 +1,9 @@
 -- The commands of a ranking file: their bytes, what they list, and which of them are refused. Assumes nothing.
-use Rattle.std.specs.Prelude.{◌≡◌, ℕ, ◌<◌, Bool, true, false, cond, not, ◌&&◌, ◌⊎◌, List, [], ◌∷◌, Some, None, Decides, Option, ◌==◌, nat_lt}
+use Rattle.std.specs.Prelude.{◌≡◌, ℕ, ◌<◌, Bool, true, false, cond, not, ◌&&◌, ◌⊎◌, List, [], ◌∷◌, length, Some, None, Decides, Option, ◌==◌, nat_lt, refl}
 use Rattle.task.specs.Task.{FactoredTask}
 use Rattle.site.specs.Changes.{put}
-use Rattle.site.specs.Files.{Format, Among}
+use Rattle.std.proofs.Common.{lit<}
+use Rattle.site.specs.Files.{Format, Among, Spelled}
 use Rattle.site.specs.declared.refusal.Fault.{Fault}
 use Rattle.site.specs.declared.refusal.Fault.TheVariants.{PairOutOfRange}
 use Rattle.ranking.specs.Ranking.{Ranking}
@@ -39,3 +40,11 @@ lists End r = r
 -- Of the task's facts, one stands under another exactly if they are the same or the pair is listed.
 abbrev pub Lists : FactoredTask → List Listing → Ranking → Type 0
 Lists t cs r = (j a b : ℕ) → j < t.factors → a < t.facts j → b < t.facts j → Decides (r j a b) ((a ≡ b) ⊎ Among (Pair j a b) cs)
+
+-- no command is without bytes, and the end is one byte
+some_bytes : (c : Listing) → 0 < length (bytes_of c)
+some_bytes (Pair factor lower upper) = lit< tt
+some_bytes End = lit< tt
+
+pub spelled : (t : FactoredTask) → Spelled (ranking_file t)
+spelled t = record { one = refl; some = some_bytes }

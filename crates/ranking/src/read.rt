@@ -1,16 +1,16 @@
 // A ranking file is read into a ranking.
-ghost use Rattle.std.specs.Prelude.{◌≡◌, ℕ, ◌<◌, true, ◌&&◌, [], MatchResult, ◌==◌, nat_lt};
+ghost use Rattle.std.specs.Prelude.{◌≡◌, ℕ, ◌<◌, true, ◌&&◌, MatchResult, ◌==◌, nat_lt};
 ghost use Rattle.task.specs.Limits.{fact_limit};
 ghost use Rattle.task.specs.Meaning.{meaning};
 ghost use Rattle.site.specs.Changes.{put};
 ghost use Rattle.site.specs.Files.{Rejected};
 ghost use Rattle.ranking.specs.Tables.{above, order};
-ghost use Rattle.ranking.specs.RankingFile.{knows, ranking_file};
-ghost use Rattle.ranking.specs.Reading.{Listed, RankingRead, Taken, TakenFirst, Filled};
+ghost use Rattle.ranking.specs.RankingFile.{knows, ranking_file, spelled};
+ghost use Rattle.ranking.specs.Reading.{Listed, RankingRead};
 
 use crate::listing::Listing;
 use crate::order::{Above, Order, Ranking};
-use site::limits::FILE_BYTES;
+use site::commands::{FromCommands, read_file};
 use site::refusal::{Fault, Refusal};
 use task::limits::{FACTORS, FACTS};
 use task::task::Task;
@@ -58,19 +58,28 @@ impl Order {
     }
 }
 
-impl Ranking {
-    fn identity() -> Ranking
-        ensures { Listed [] result }
-    {
+impl FromCommands<Task> for Ranking {
+    type Command = Listing;
+
+    ghost format = { λ task. ranking_file (meaning task) };
+
+    ghost spelled = { λ task. spelled (meaning task) };
+
+    ghost holds = { λ ranking listings. Listed listings ranking };
+
+    // Each fact stands under itself alone.
+    fn new() -> Ranking {
         Ranking {
             parts: [Order::identity(); FACTORS],
         }
     }
 
+    fn next(bytes: &[u8]) -> Result<(Listing, &[u8]), Fault> {
+        Listing::next(bytes)
+    }
+
     // Takes a command, if its operands are in range.
-    fn take(&mut self, task: &Task, listing: Listing) -> Result<(), Fault>
-        ensures { Taken (meaning task.now) self.old listing self.new result }
-    {
+    fn take(&mut self, task: &Task, listing: Listing) -> Result<(), Fault> {
         if let Listing::Pair {
             factor,
             lower,
@@ -85,52 +94,21 @@ impl Ranking {
         Ok(())
     }
 
-    // Takes the first command of the bytes, and gives it with what follows it.
-    fn take_first<'a>(&mut self, task: &Task, bytes: &'a [u8]) -> Result<(Listing, &'a [u8]), Fault>
-        ensures { TakenFirst (meaning task.now) self.old bytes.now self.new result }
-    {
-        let (listing, rest) = Listing::next(bytes)?;
-        self.take(task, listing)?;
-        Ok((listing, rest))
+    fn is_end(listing: Listing) -> bool {
+        matches!(listing, Listing::End)
     }
 
-    // Takes the commands of a file up to its end, and gives the offset of the end's letter.
-    fn fill(&mut self, task: &Task, bytes: &[u8]) -> Result<usize, Refusal>
-        requires { Listed [] self.old }
-        ensures { Filled (meaning task.now) bytes.now self.new result }
-    {
-        let mut rest = bytes;
-        loop {
-            let at = bytes.len() - rest.len();
-            let (listing, after) = match self.take_first(task, rest) {
-                Ok(taken) => taken,
-                Err(fault) => return Err(Refusal::File { fault, at }),
-            };
-            if let Listing::End = listing {
-                return Ok(at);
-            }
-            rest = after;
-        }
+    // Nothing has to be listed.
+    fn is_whole(&self, _task: &Task) -> bool {
+        true
     }
+}
 
+impl Ranking {
     // The ranking that a file lists for a task, or why the file is refused.
     pub fn read(task: &Task, bytes: &[u8]) -> Result<Ranking, Refusal>
         ensures { MatchResult result (λ ranking. RankingRead task.now bytes.now ranking) (λ refusal. Rejected (ranking_file (meaning task.now)) bytes.now refusal) }
     {
-        if bytes.len() > FILE_BYTES {
-            return Err(Refusal::File {
-                fault: Fault::TooLong,
-                at: 0,
-            });
-        }
-        let mut ranking = Ranking::identity();
-        let end = ranking.fill(task, bytes)?;
-        if end + 1 < bytes.len() {
-            return Err(Refusal::File {
-                fault: Fault::Trailing,
-                at: end + 1,
-            });
-        }
-        Ok(ranking)
+        read_file(task, bytes)
     }
 }

@@ -1,14 +1,8 @@
 -- A list with one element written, and a function changed at one number. Assumes nothing.
-use Rattle.std.proofs.Common.{◌≡◌, ℕ, zero, suc, ◌<◌, List, length, get_or, set, replicate, sym, ap, ◌∙◌, inl, inr}
+use Rattle.std.proofs.Common.{◌≡◌, ℕ, ◌<◌, List, length, get_or, set, sym, ap, ◌∙◌, inl, inr}
 use Rattle.std.proofs.lemmas.Bool.{cases_lt, cases_eq, cond-true, cond-false, eq-eqb, ne_eqb}
 use Rattle.std.proofs.lemmas.List.{get_or-set_same, get_or-set_other, set_past}
 use Rattle.site.specs.Changes.{put}
-
--- what holds of a list's one value and of the default holds at each place
-pub get_d_either : {A : Type 0} (P : A → Type 0) (n i : ℕ) (a d : A) → P a → P d → P (get_or (replicate n a) i d)
-get_d_either P zero i a d pa pd = pd
-get_d_either P (suc n) zero a d pa pd = pa
-get_d_either P (suc n) (suc i) a d pa pd = get_d_either P n i a d pa pd
 
 pub put_at : {A : Type 0} (i : ℕ) (v : A) (f : ℕ → A) (k : ℕ) → k ≡ i → put i v f k ≡ v
 put_at i v f k e = cond-true _ _ _ (eq-eqb k i e)

@@ -1,18 +1,20 @@
 -- What is written into a draft, as what it describes.
-use Rattle.std.proofs.Common.{◌≡◌, ℕ, zero, suc, ◌+◌, ◌<◌, Bool, true, false, cond, ltb, [], length, get_or, set, replicate, Some, None, Option, sym, refl, ap, ◌∙◌, inl, inr, add-one, arith}
+use Rattle.std.proofs.Common.{◌≡◌, ℕ, zero, suc, ◌+◌, ◌<◌, Bool, true, false, cond, ltb, [], length, get_or, set, take, replicate, is_some, Some, None, Option, sym, refl, ap, ◌∙◌, inl, inr, add-one, arith}
 use mathlib.Core.Path.{fun_ext}
 use Rattle.std.proofs.lemmas.Bool.{or_left, or_right, or_from, cases_lt, cases_eq}
 use Rattle.std.proofs.lemmas.Bool.Decides.{nat_tests}
-use Rattle.task.specs.Limits.{factor_limit, fact_limit, label_limit}
-use Rattle.task.specs.Tables.{part, row, entry, goals, leads_to, nowhere, targets}
+use Rattle.std.proofs.lemmas.List.{get_or-take, length-take}
+use Rattle.task.specs.Limits.{factor_limit, label_limit}
+use Rattle.task.specs.Tables.{part, row, entry, goals, targets}
+use Rattle.task.proofs.Blank.{get_d_either}
 use Rattle.site.specs.Changes.{put}
 use Rattle.site.specs.SiteFile.{Described, nothing, some, leads, adds}
-use Rattle.site.proofs.Changing.{get_d_either, put_at, put_off, set_keeps, set_puts}
-use Rattle.site.specs.Drafts.{described, price_of, unpriced}
+use Rattle.site.proofs.Changing.{put_at, put_off, set_keeps, set_puts}
+use Rattle.site.specs.Drafts.{described}
 use Rattle.site.specs.declared.command.Command.TheVariants.{Goal}
 use Rattle.task.specs.declared.row.Row.{Row}
 use Rattle.task.specs.declared.factor.Factor.{Factor}
-use Rattle.site.specs.declared.draft.Draft.{Draft}
+use Rattle.site.specs.declared.tables.Tables.{Tables}
 
 pub some_at : (p : ℕ → Bool) (n k : ℕ) → k < n → p k ≡ true → some p n ≡ true
 some_at p zero k h e = absurd (omega arith)
@@ -23,52 +25,6 @@ some_at p (suc n) k h e = elim (cases_lt k n) [
 
 pub some_more : (p : ℕ → Bool) (n : ℕ) → some p n ≡ false → p n ≡ false → some p (n + 1) ≡ false
 some_more p n a b = rw add-one (or_from _ _ a b)
-
-abbrev no_row : Row
-no_row = record { goal = false; next = replicate (label_limit + 1) nowhere }
-
-abbrev no_part : Factor
-no_part = record { facts = 0; start = 0; rows = replicate fact_limit no_row }
-
-abbrev past_row : Row
-past_row = record { goal = false; next = [] }
-
-abbrev past_part : Factor
-past_part = record { facts = 0; start = 0; rows = [] }
-
-abbrev pub fresh : Draft
-fresh = record { factors = 0; labels = 0; declared = 0; costs = replicate (label_limit + 1) unpriced; parts = replicate factor_limit no_part }
-
-fresh_facts : (j : ℕ) → (part (replicate factor_limit no_part) j).facts ≡ 0
-fresh_facts j = get_d_either (λ f. f.facts ≡ 0) factor_limit j no_part past_part refl refl
-
-fresh_start : (j : ℕ) → (part (replicate factor_limit no_part) j).start ≡ 0
-fresh_start j = get_d_either (λ f. f.start ≡ 0) factor_limit j no_part past_part refl refl
-
-fresh_goal : (j x : ℕ) → (row (part (replicate factor_limit no_part) j) x).goal ≡ false
-fresh_goal j x = get_d_either (λ f. (row f x).goal ≡ false) factor_limit j no_part past_part (get_d_either (λ r. r.goal ≡ false) fact_limit x no_row past_row refl refl) refl
-
-fresh_cost : (l : ℕ) → price_of (get_or (replicate (label_limit + 1) unpriced) l unpriced) ≡ None
-fresh_cost l = get_d_either (λ p. price_of p ≡ None) (label_limit + 1) l unpriced unpriced refl refl
-
-fresh_targets : (l : ℕ) → targets no_row l ≡ None
-fresh_targets l = get_d_either (λ o. leads_to o ≡ None) (label_limit + 1) l nowhere nowhere refl refl
-
-fresh_moves : (j l x : ℕ) → entry (part (replicate factor_limit no_part) j) l x ≡ None
-fresh_moves j l x = get_d_either (λ f. entry f l x ≡ None) factor_limit j no_part past_part
-    (get_d_either (λ r. targets r l ≡ None) fact_limit x no_row past_row (fresh_targets l) refl) refl
-
-pub fresh_describes : described fresh ≡ nothing
-fresh_describes i = record {
-  factors = 0;
-  labels = 0;
-  declared = 0;
-  facts = λ j. fresh_facts j i;
-  start = λ j. fresh_start j i;
-  goal = λ j x. fresh_goal j x i;
-  cost = λ l. fresh_cost l i;
-  moves = λ j l x. fresh_moves j l x i;
-}
 
 pub same : (t u : Described) → t.factors ≡ u.factors → t.labels ≡ u.labels → t.declared ≡ u.declared
     → ((j : ℕ) → t.facts j ≡ u.facts j) → ((j : ℕ) → t.start j ≡ u.start j) → ((j x : ℕ) → t.goal j x ≡ u.goal j x)
@@ -84,7 +40,35 @@ same t u a b c p q g s m i = record {
   moves = λ j l x. m j l x i;
 }
 
-abbrev pub with_part : Draft → ℕ → Factor → Draft
+-- at the end of a count that found nothing
+pub some_none : (p : ℕ → Bool) (n m : ℕ) → n ≡ m → some p n ≡ false → false ≡ some p m
+some_none p n m e h = sym (rw e at h)
+
+abbrev past_row : Row
+past_row = record { goal = false; next = [] }
+
+abbrev past_part : Factor
+past_part = record { facts = 0; start = 0; rows = [] }
+
+-- a loop over the rows of a factor's facts comes to fact after fact
+pub row_low : (f : Factor) (i : ℕ) → i < length (take f.facts f.rows) → i < f.facts
+row_low f i h = omega (arith, length-take f.facts f.rows)
+
+pub row_at : (f : Factor) (l i : ℕ) (b a : Bool) → i < length (take f.facts f.rows)
+    → b ≡ is_some (targets (get_or (take f.facts f.rows) i past_row) l) → b ≡ a → is_some (entry f l i) ≡ a
+row_at f l i b a h e p = ap (λ (r : Row). is_some (targets r l)) (sym (get_or-take f.facts f.rows i past_row (row_low f i h))) ∙ sym e ∙ p
+
+-- tables that hold one factor in each place, which has nothing, describe nothing
+pub fresh_describes : (f : Factor) → f.facts ≡ 0 → f.start ≡ 0 → ((x : ℕ) → goals f x ≡ false) → ((l x : ℕ) → entry f l x ≡ None)
+    → described (record { factors = 0; labels = 0; declared = 0; costs = replicate (label_limit + 1) None; parts = replicate factor_limit f }) ≡ nothing
+fresh_describes f a b g m = same _ _ refl refl refl
+    (λ j. get_d_either (λ p. p.facts ≡ 0) factor_limit j f past_part a refl)
+    (λ j. get_d_either (λ p. p.start ≡ 0) factor_limit j f past_part b refl)
+    (λ j x. get_d_either (λ p. goals p x ≡ false) factor_limit j f past_part (g x) refl)
+    (λ l. get_d_either (λ p. p ≡ None) (label_limit + 1) l None None refl refl)
+    (λ j l x. get_d_either (λ p. entry p l x ≡ None) factor_limit j f past_part (m l x) refl)
+
+abbrev pub with_part : Tables → ℕ → Factor → Tables
 with_part d j f = record { factors = d.factors; labels = d.labels; declared = d.declared; costs = d.costs; parts = set d.parts j f }
 
 abbrev pub with_row : Factor → ℕ → Row → Factor
@@ -106,7 +90,7 @@ pub led_moves : (f : Factor) (l x y : ℕ) (r : Row) → x < length f.rows → t
     → entry (with_row f x r) ≡ put l (put x (Some y) (entry f l)) (entry f)
 led_moves f l x y r h e = fun_ext (λ m. fun_ext (λ z. led_move f l x y r h e m z))
 
-pub connected : (d : Draft) (j l x y : ℕ) (f : Factor) → j < length d.parts
+pub connected : (d : Tables) (j l x y : ℕ) (f : Factor) → j < length d.parts
     → f.facts ≡ (part d.parts j).facts → f.start ≡ (part d.parts j).start → goals f ≡ goals (part d.parts j)
     → entry f ≡ put l (put x (Some y) (entry (part d.parts j) l)) (entry (part d.parts j))
     → described (with_part d j f) ≡ leads j l (put x (Some y) ((described d).moves j l)) (described d)
@@ -117,7 +101,7 @@ connected d j l x y f h a b g e = same _ _ refl refl refl
     (λ _. refl)
     (λ i m z. ap (λ (q : ℕ → ℕ → Option ℕ). q m z) (set_puts entry d.parts j f past_part _ h e i))
 
-pub marked : (d : Draft) (j x : ℕ) (f : Factor) → j < length d.parts
+pub marked : (d : Tables) (j x : ℕ) (f : Factor) → j < length d.parts
     → f.facts ≡ (part d.parts j).facts → f.start ≡ (part d.parts j).start → goals f ≡ put x true (goals (part d.parts j))
     → entry f ≡ entry (part d.parts j)
     → described (with_part d j f) ≡ adds (Goal j x) (described d)

@@ -128,17 +128,17 @@ cost_kept t l n h o =
       costs = λ k far. let ne : k ≡ l → ⊥ = λ e. omega arith in rw (put_off l (Some n) t.cost k ne) (h.costs k far);
     }
 
-kept : (t : Described) (c : Command) → Limited t → (misplaced t c ≡ false) × (outside t c ≡ false) × (repeated t c ≡ false) → Limited (adds c t)
-kept t (Sizes n m) h f = sizes_kept t n m h f.0 f.1
-kept t (Facts j n s) h f = facts_kept t j n s h f.0 f.1
-kept t (Goal j x) h f = record
+pub kept : (t : Described) (c : Command) → Limited t → misplaced t c ≡ false → outside t c ≡ false → Limited (adds c t)
+kept t (Sizes n m) h p o = sizes_kept t n m h p o
+kept t (Facts j n s) h p o = facts_kept t j n s h p o
+kept t (Goal j x) h p o = record
     { few = h.few; coded = h.coded; ahead = h.ahead; begun = h.begun; small = h.small; blank = h.blank; starts = h.starts; lands = h.lands; costs = h.costs }
-kept t (Cost l n) h f = cost_kept t l n h f.1
-kept t (Move j l x y) h f = move_kept t j l x y h f.1
-kept t (Loop j l) h f = loop_kept t j l h
-kept t End h f = h
+kept t (Cost l n) h p o = cost_kept t l n h o
+kept t (Move j l x y) h p o = move_kept t j l x y h o
+kept t (Loop j l) h p o = loop_kept t j l h
+kept t End h p o = h
 
-none_limited : Limited nothing
+pub none_limited : Limited nothing
 none_limited = record {
   few = omega arith;
   coded = omega arith;
@@ -153,7 +153,7 @@ none_limited = record {
 
 pub limited : (cs : List Command) → Sound site_file cs → Limited (describes cs)
 limited [] s = none_limited
-limited (c ∷ cs) s = kept (describes cs) c (limited cs s.2) (fine (describes cs) c s.0)
+limited (c ∷ cs) s = let f = fine (describes cs) c s.0 in kept (describes cs) c (limited cs s.2) f.0 f.1
 
 -- what is described leads from facts to facts
 pub moves_land : (cs : List Command) → Sound site_file cs → (j l x y : ℕ) → x < (describes cs).facts j → move (task (describes cs)) j l x ≡ Some y → y < (describes cs).facts j

@@ -1,11 +1,17 @@
 -- How a file is read from command to command.
-use Rattle.std.proofs.Common.{◌≡◌, ℕ, ◌+◌, ◌-◌, ◌<◌, ◌≤◌, List, [], ◌∷◌, ◌++◌, length, None, sym, refl, ap, ◌∙◌, arith}
+use Rattle.std.proofs.Common.{◌≡◌, ℕ, ◌+◌, ◌-◌, ◌<◌, ◌≤◌, List, [], ◌∷◌, ◌++◌, length, ◌≢◌, None, Ok, Err, Result, MatchResult, IsErrAnd, sym, refl, ap, ◌∙◌, arith}
 use Rattle.std.proofs.lemmas.List.{append_assoc, length-append, nil_from_length}
 use Rattle.site.specs.Files.{Format, file_limit, written, Came, Ended, Stopped, StoppedBy, Faulty, Accepted, Rejected, stopped, lacks, trailing}
 use Rattle.site.specs.declared.refusal.Fault.{Fault}
 use Rattle.site.specs.declared.refusal.Fault.TheVariants.{Unpriced, Trailing}
 use Rattle.site.specs.declared.refusal.Refusal.{Refusal}
 use Rattle.site.specs.declared.refusal.Refusal.TheVariants.{File, Chain, Goal, Reply}
+
+-- what `map_err` answered `Ok` was `Ok`
+pub ok_from_map_err : {A E D : Type 0} (Post : E → D → Type 0) (r : Result A E) (out : Result A D) (x : A)
+    → MatchResult r (λ y. out ≡ Ok y) (λ e. IsErrAnd out (Post e)) → out ≡ Ok x → r ≡ Ok x
+ok_from_map_err Post (Ok y) out x h e = let p = sym h ∙ e in let q : y ≡ x = cc in ap Ok q
+ok_from_map_err Post (Err f) out x h e = absurd (rw e at h)
 
 module _ {C : Type 0} (F : Format C) where
   pub came_none : (bytes : List ℕ) → Came F bytes [] bytes
@@ -45,6 +51,17 @@ module _ {C : Type 0} (F : Format C) where
 
   pub taken_less : (rest after : List ℕ) (c : C) → 0 < length (F.bytes_of c) → rest ≡ F.bytes_of c ++ after → length after < length rest
   taken_less rest after c h e = let q = ap length e ∙ length-append (F.bytes_of c) after in omega arith
+
+  module _ {S : Type 0} (Holds : S → List C → Type 0) (bytes rest : List ℕ) (before : List C) (h : Came F bytes before rest) where
+    pub taken_more : (after : List ℕ) (c : C) (s : S)
+        → (rest ≡ F.bytes_of c ++ after) × ((F.fault_of before c ≡ None) × (c ≡ F.end → Holds s before) × (c ≢ F.end → Holds s (c ∷ before)))
+        → c ≢ F.end → (cs : List C) × Came F bytes cs after × Holds s cs
+    taken_more after c s e n = (c ∷ before, came_more bytes rest after before c h e.0 e.1.0 n, e.1.2 n)
+
+    pub taken_end : (after : List ℕ) (c : C) (s : S)
+        → (rest ≡ F.bytes_of c ++ after) × ((F.fault_of before c ≡ None) × (c ≡ F.end → Holds s before) × (c ≢ F.end → Holds s (c ∷ before)))
+        → c ≡ F.end → (x : Ended F bytes (length bytes - length rest)) × Holds s x.before
+    taken_end after c s e n = (came_end bytes rest after before h (rw n at e.0) (rw n at e.1.0), e.1.1 n)
 
   -- a file that has ended, with one byte for its end
   module _ (one : length (F.bytes_of F.end) ≡ 1) (bytes : List ℕ) (n : ℕ) (e : Ended F bytes n) where

@@ -1,24 +1,11 @@
--- What a draft of the code describes. Assumes nothing.
-use Rattle.std.specs.Prelude.{◌≡◌, ℕ, ◌<◌, ◌≤◌, false, cond, T, List, ◌++◌, Some, None, Ok, Err, Option, Result, slice_index_or}
+-- What the tables of a draft describe. Assumes nothing.
+use Rattle.std.specs.Prelude.{◌≡◌, ℕ, ◌<◌, ◌≤◌, T, None, slice_index_or}
 use Rattle.task.specs.Limits.{factor_limit, fact_limit, label_limit}
 use Rattle.task.specs.Tables.{part, row, entry, within}
-use Rattle.std.specs.Borrow.{Bor}
-use Rattle.site.specs.Files.{Faulty, Ended, StoppedBy}
-use Rattle.site.specs.SiteFile.{Described, adds, describes, fault_of, bytes_of, site_file}
-use Rattle.site.specs.declared.command.Command.{Command}
-use Rattle.site.specs.declared.refusal.Fault.{Fault}
-use Rattle.site.specs.declared.refusal.Refusal.{Refusal}
-use Rattle.site.specs.declared.draft.Draft.{Draft}
-use Rattle.site.specs.declared.draft.Price.{Price}
+use Rattle.site.specs.SiteFile.{Described}
+use Rattle.site.specs.declared.tables.Tables.{Tables}
 
--- a cost, if it is given; past the end none is
-abbrev pub price_of : Price → Option ℕ
-price_of p = cond p.given (Some p.cost) None
-
-abbrev pub unpriced : Price
-unpriced = record { given = false; cost = 0 }
-
-abbrev pub described : Draft → Described
+abbrev pub described : Tables → Described
 described d = record {
   factors = d.factors;
   labels = d.labels;
@@ -26,7 +13,7 @@ described d = record {
   facts = λ j. (part d.parts j).facts;
   start = λ j. (part d.parts j).start;
   goal = λ j x. (row (part d.parts j) x).goal;
-  cost = λ l. price_of (slice_index_or d.costs l unpriced);
+  cost = λ l. slice_index_or d.costs l None;
   moves = λ j l x. entry (part d.parts j) l x;
 }
 
@@ -41,16 +28,3 @@ pub record Limited (t : Described) : Type 0 where
   pub starts : (j : ℕ) → j < t.declared → t.start j < t.facts j
   pub lands : (j l x : ℕ) → T (within (t.moves j l x) (t.facts j))
   pub costs : (l : ℕ) → label_limit < l → t.cost l ≡ None
-
--- What comes of a command, of the first command of some bytes, and of a whole file: t is described before, and u after.
-abbrev pub Taken : Described → Command → Described → Result Unit Fault → Type 0
-Taken t c u (Ok _) = (fault_of t c ≡ None) × (u ≡ adds c t)
-Taken t c u (Err fault) = fault_of t c ≡ Some fault
-
-abbrev pub TakenFirst : Described → List ℕ → Described → Result (Command × Bor (List ℕ)) Fault → Type 0
-TakenFirst t bytes u (Ok p) = (bytes ≡ bytes_of p.0 ++ p.1.now) × (fault_of t p.0 ≡ None) × (u ≡ adds p.0 t)
-TakenFirst t bytes u (Err fault) = Faulty site_file (fault_of t) bytes fault
-
-abbrev pub Filled : List ℕ → Described → Result ℕ Refusal → Type 0
-Filled bytes u (Ok place) = (e : Ended site_file bytes place) × (u ≡ describes e.before)
-Filled bytes u (Err refusal) = StoppedBy site_file bytes refusal

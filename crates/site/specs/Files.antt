@@ -101,3 +101,29 @@ module _ {C : Type 0} (F : Format C) where
     stopped : {fault : Fault} {place : ℕ} → length bytes ≤ file_limit → Stopped bytes fault place → Rejected bytes (File fault place)
     lacks : {place : ℕ} → length bytes ≤ file_limit → (e : Ended bytes place) → (F.whole e.before → ⊥) → Rejected bytes (File Unpriced place)
     trailing : {place : ℕ} → length bytes ≤ file_limit → (e : Ended bytes place) → F.whole e.before → 0 < length e.rest → Rejected bytes (File Trailing (place + 1))
+
+  -- the end is one byte, and no command is without bytes
+  pub record Spelled : Type 0 where
+    pub one : length (F.bytes_of F.end) ≡ 1
+    pub some : (c : C) → 0 < length (F.bytes_of c)
+
+  -- While a file is read, something holds what its commands so far say. What comes of the next command: it is fine, and is
+  -- held as well unless it ends the file; or it has a fault.
+  abbrev pub Taken : {S : Type 0} → (S → List C → Type 0) → List C → C → S → Result Unit Fault → Type 0
+  Taken Holds before c s (Ok _) = (F.fault_of before c ≡ None) × (c ≡ F.end → Holds s before) × (c ≢ F.end → Holds s (c ∷ before))
+  Taken Holds before c s (Err fault) = F.fault_of before c ≡ Some fault
+
+  -- the same of the first command of some bytes
+  abbrev pub TakenFirst : {S : Type 0} → (S → List C → Type 0) → List C → List ℕ → S → Result (C × Bor (List ℕ)) Fault → Type 0
+  TakenFirst Holds before bytes s (Ok p) = (bytes ≡ F.bytes_of p.0 ++ p.1.now) × Taken Holds before p.0 s (Ok tt)
+  TakenFirst Holds before bytes s (Err fault) = Faulty (F.fault_of before) bytes fault
+
+  -- the same of a file up to its end, whose letter stands at a place
+  abbrev pub Filled : {S : Type 0} → (S → List C → Type 0) → List ℕ → S → Result ℕ Refusal → Type 0
+  Filled Holds bytes s (Ok place) = (e : Ended bytes place) × Holds s e.before
+  Filled Holds bytes s (Err refusal) = StoppedBy bytes refusal
+
+  -- the same of a whole file
+  abbrev pub ReadInto : {S : Type 0} → (S → List C → Type 0) → List ℕ → Result S Refusal → Type 0
+  ReadInto Holds bytes (Ok s) = (a : Accepted bytes) × Holds s a.ended.before
+  ReadInto Holds bytes (Err refusal) = Rejected bytes refusal

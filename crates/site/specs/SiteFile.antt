@@ -1,10 +1,11 @@
 -- The commands of a site file: their bytes, what they describe, and which of them are refused. Assumes nothing.
-use Rattle.std.specs.Prelude.{◌≡◌, ℕ, zero, suc, ◌+◌, ◌/◌, ◌%◌, ◌≤◌, Bool, true, false, cond, not, ◌&&◌, ◌||◌, List, [], ◌∷◌, is_some, Some, None, Option, ◌==◌, nat_le, nat_lt}
+use Rattle.std.specs.Prelude.{◌≡◌, ℕ, zero, suc, ◌+◌, ◌/◌, ◌%◌, ◌<◌, ◌≤◌, Bool, true, false, cond, not, ◌&&◌, ◌||◌, List, [], ◌∷◌, length, is_some, Some, None, Option, ◌==◌, nat_le, nat_lt, refl}
 use Rattle.std.specs.Option.{unwrap_or}
 use Rattle.task.specs.Task.{FactoredTask}
 use Rattle.task.specs.Limits.{factor_limit, fact_limit, label_limit}
 use Rattle.site.specs.Changes.{put}
-use Rattle.site.specs.Files.{Format}
+use Rattle.std.proofs.Common.{lit<}
+use Rattle.site.specs.Files.{Format, Spelled}
 use Rattle.site.specs.declared.refusal.Fault.{Fault}
 use Rattle.site.specs.declared.refusal.Fault.TheVariants.{Misplaced, OutOfRange, Repeated}
 use Rattle.site.specs.declared.command.Command.{Command}
@@ -165,3 +166,16 @@ Priced t = (l : ℕ) → 1 ≤ l → l ≤ t.labels → is_some (t.cost l) ≡ t
 abbrev pub site_file : Format Command
 site_file = record
     { bytes_of = bytes_of; operands = operands; end = End; fault_of = λ before c. fault_of (describes before) c; whole = λ before. Priced (describes before) }
+
+-- no command is without bytes, and the end is one byte
+some_bytes : (c : Command) → 0 < length (bytes_of c)
+some_bytes (Sizes factors labels) = lit< tt
+some_bytes (Facts factor facts start) = lit< tt
+some_bytes (Goal factor fact) = lit< tt
+some_bytes (Cost label cost) = lit< tt
+some_bytes (Move factor label from to) = lit< tt
+some_bytes (Loop factor label) = lit< tt
+some_bytes End = lit< tt
+
+pub spelled : Spelled site_file
+spelled = record { one = refl; some = some_bytes }

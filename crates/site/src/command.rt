@@ -5,7 +5,7 @@ ghost use Rattle.site.specs.SiteFile.{bytes_of, operands};
 
 use crate::refusal::Fault;
 
-#[derive(Clone, Copy)]
+#[derive(Clone, Copy, Debug, PartialEq, Eq)]
 pub enum Command {
     Sizes {
         factors: u8,

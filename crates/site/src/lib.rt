@@ -2,6 +2,7 @@
 #![tactic(auto)]
 
 pub mod command;
+pub mod commands;
 mod draft;
 pub mod input;
 pub mod limits;

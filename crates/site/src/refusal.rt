@@ -1,7 +1,7 @@
 // Why an input is refused.
 
 // The layer that found what is wrong.
-#[derive(Clone, Copy)]
+#[derive(Clone, Copy, Debug, PartialEq, Eq)]
 pub enum Layer {
     Reader,
     Site,
@@ -9,7 +9,7 @@ pub enum Layer {
 }
 
 // What is wrong in a file of commands.
-#[derive(Clone, Copy)]
+#[derive(Clone, Copy, Debug, PartialEq, Eq)]
 pub enum Fault {
     // The file is longer than any may be.
     TooLong,
@@ -31,7 +31,7 @@ pub enum Fault {
     Unpriced,
 }
 
-#[derive(Clone, Copy)]
+#[derive(Clone, Copy, Debug, PartialEq, Eq)]
 pub enum Refusal {
     // A file has a fault at this offset.
     File { fault: Fault, at: usize },
@@ -44,15 +44,16 @@ pub enum Refusal {
 }
 
 // Where an input is wrong: at an offset in a file, or at two facts of a factor and a label.
-#[derive(Clone, Copy)]
+#[derive(Clone, Copy, Debug, PartialEq, Eq)]
 pub enum Place {
     Offset(usize),
     Facts { factor: u8, a: u8, b: u8, label: u8 },
 }
 
 // A refusal as it is reported.
-#[derive(Clone, Copy)]
+#[derive(Clone, Copy, Debug, PartialEq, Eq)]
 pub struct Report {
+    // A number, since refusals have official ones, and those are what is reported.
     pub number: u8,
     pub layer: Layer,
     pub place: Place,

@@ -4,17 +4,19 @@ ghost use Rattle.site.specs.Reports.{number_of, layer_of, place_of, report_of};
 
 use crate::refusal::{Fault, Layer, Place, Refusal, Report};
 
-impl Refusal {
-    pub fn report(self) -> Report
-        ensures { result ≡ report_of self }
-    {
+impl From<Refusal> for Report {
+    ghost from_gives = { λ refusal report. report ≡ report_of refusal };
+
+    fn from(refusal: Refusal) -> Report {
         Report {
-            number: self.number(),
-            layer: self.layer(),
-            place: self.place(),
+            number: refusal.number(),
+            layer: refusal.layer(),
+            place: refusal.place(),
         }
     }
+}
 
+impl Refusal {
     fn number(self) -> u8
         ensures { result ≡ number_of self }
     {

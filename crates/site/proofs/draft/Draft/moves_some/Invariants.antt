@@ -3,5 +3,5 @@ use Rattle.site.specs.SiteFile.{some}
 use Rattle.site.specs.Drafts.{described}
 use Rattle.site.proofs.draft.Draft.moves_some.Given as goal
 
-abbrev pub invariant-loop-fact : goal.invariant-loop-fact
-invariant-loop-fact l = some (λ x. is_some ((described l.self).moves l.factor l.label x)) l.fact ≡ false
+abbrev pub invariant-loop-row : goal.invariant-loop-row
+invariant-loop-row l = some (λ x. is_some ((described l.self.tables).moves l.factor l.label x)) l.row-index ≡ false

@@ -1,6 +1,6 @@
 use Rattle.std.proofs.Common.{rules}
 use Rattle.site.proofs.Drafting.{connected}
-use Rattle.site.proofs.draft.Draft.connect.Goals as goal
+use Rattle.site.proofs.tables.Tables.connect.Goals as goal
 
 pub returns : goal.returns
 returns c =

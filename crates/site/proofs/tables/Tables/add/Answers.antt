@@ -1,6 +1,6 @@
 use Rattle.std.proofs.Common.{rules}
 use Rattle.site.proofs.Drafting.{marked}
-use Rattle.site.proofs.draft.Draft.add.Goals as goal
+use Rattle.site.proofs.tables.Tables.add.Goals as goal
 
 pub returns-in-Goal : goal.returns-in-Goal
 returns-in-Goal c =

@@ -1,6 +1,6 @@
 use Rattle.site.specs.Drafts.{described}
 use Rattle.site.proofs.Drafting.{keeps_none, keeps_step}
-use Rattle.site.proofs.draft.Draft.keep.Goals as goal
+use Rattle.site.proofs.tables.Tables.keep.Goals as goal
 
 pub loop-fact-init : goal.loop-fact-init
 loop-fact-init c = keeps_none _ _ _
