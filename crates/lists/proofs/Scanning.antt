@@ -1,8 +1,8 @@
 -- The best key so far, from one place to the next, and what is left of it at the end. Assumes nothing.
-use Rattle.std.proofs.Common.{◌≡◌, ℕ, ◌+◌, ◌<◌, ◌≤◌, Bool, true, false, cond, List, length, get_or, Some, None, Option, refl, subst, ⊎_elim, arith, below_more}
+use Rattle.std.proofs.Common.{◌≡◌, ℕ, ◌+◌, ◌<◌, ◌≤◌, Bool, true, false, cond, List, length, get_or, Some, None, Option, MatchOption, refl, sym, subst, ⊎_elim, arith, below_more}
 use Rattle.std.proofs.lemmas.List.{get_or_past}
 use Rattle.std.proofs.lemmas.Bool.{both_ways, cases_lt, cases_Bool}
-use Rattle.lists.specs.Least.{Least}
+use Rattle.lists.specs.Least.{Least, Chosen}
 use Rattle.lists.specs.Scan.{better_of, BestAt, BestBelow}
 
 pub some_none : {K : Type 0} {P : Type 0} (o : Option K) (k : K) → o ≡ None → o ≡ Some k → P
@@ -64,12 +64,16 @@ module _ {K : Type 0} (sooner : K → K → Bool) (irreflexive : (x : K) → soo
     within P i m j end f e =
         ⊎_elim f (λ l. some_none (get_or keys m None) j (get_or_past keys m None (omega arith)) e) (cases_lt m i)
 
-    pub best_all : (i n : ℕ) (k : K) → length keys ≤ i → BestAt sooner keys i n k → Least sooner (λ m. get_or keys m None) n k
+    best_all : (i n : ℕ) (k : K) → length keys ≤ i → BestAt sooner keys i n k → Least sooner (λ m. get_or keys m None) n k
     best_all i n k end b = record {
       held = b.held;
       least = λ m j e. within (λ m. sooner j k ≡ false) i m j end (λ h. b.least m j h e) e;
       lowest = λ m e. ⊎_elim (λ l. absurd (b.lowest m l e)) (λ l. l) (cases_lt m n);
     }
 
-    pub none_all : (i : ℕ) → length keys ≤ i → ((m : ℕ) → m < i → get_or keys m None ≡ None) → (m : ℕ) → get_or keys m None ≡ None
-    none_all i end none m = ⊎_elim (none m) (λ l. get_or_past keys m None (omega arith)) (cases_lt m i)
+    -- the number of the best, once all places are seen
+    pub scanned : (i : ℕ) (best : Option (ℕ × K)) (r : Option ℕ) → length keys ≤ i → BestBelow sooner keys i best
+        → MatchOption best (r ≡ None) (λ b. r ≡ Some b.0) → Chosen sooner (λ m. get_or keys m None) r
+    scanned i None r end none e =
+        subst (Chosen sooner (λ m. get_or keys m None)) (sym e) (λ m. ⊎_elim (none m) (λ l. get_or_past keys m None (omega arith)) (cases_lt m i))
+    scanned i (Some b) r end best e = subst (Chosen sooner (λ m. get_or keys m None)) (sym e) (b.1, best_all i b.0 b.1 end best)

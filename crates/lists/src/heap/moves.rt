@@ -73,7 +73,7 @@ impl<K: Key> Heap<K> {
     }
 
     // Moves the number at a place up for as long as it comes before the one above, and says where it then stands.
-    pub(super) fn rise(&mut self, start: usize) -> usize
+    pub(crate) fn rise(&mut self, start: usize) -> usize
         requires within { start < self.old.count }
         requires loose { Loose (heap_earlier K.Key.sooner self.old) (heap_order self.old) self.old.count start }
         ensures keys { self.new.keys ≡ self.old.keys }
@@ -121,7 +121,7 @@ impl<K: Key> Heap<K> {
     }
 
     // Moves the number at a place down for as long as one below comes before it.
-    pub(super) fn sink(&mut self, start: usize)
+    pub(crate) fn sink(&mut self, start: usize)
         requires within { start < capacity_limit }
         requires high { High (heap_earlier K.Key.sooner self.old) (heap_order self.old) self.old.count start }
         ensures keys { self.new.keys ≡ self.old.keys }

@@ -18,5 +18,5 @@ invariant_of-result g c =
       fronted = λ n l. ap is_some (get_d_nones capacity_limit n) ∙ sym (le-ltb (get_or r n 0) 0 (omega arith));
     }
 
-pub returns : goal.returns
-returns g c = record { order = λ i low none. absurd (omega arith); empty = λ n. get_d_nones capacity_limit n }
+pub returns-clause-empty : goal.returns-clause-empty
+returns-clause-empty g c n = get_d_nones capacity_limit n
