@@ -5,6 +5,8 @@ ghost use Rattle.lists.specs.Heaps.{Loose, High};
 ghost use Rattle.lists.specs.Least.{Chosen, Without};
 ghost use Rattle.lists.specs.Tables.{heap_holds, heap_order, heap_earlier, InOrder};
 
+use std::array;
+
 use super::Heap;
 use crate::keys::Key;
 use crate::waiting::CAPACITY;
@@ -14,11 +16,7 @@ fn in_order() -> [u16; CAPACITY]
     ensures length { length result ≡ capacity_limit }
     ensures places { (i : ℕ) → i < capacity_limit → slice_index result i ≡ i }
 {
-    let mut numbers = [0; CAPACITY];
-    for (number, slot) in numbers.iter_mut().enumerate() {
-        *slot = number as u16;
-    }
-    numbers
+    array::from_fn(|number| number as u16)
 }
 
 impl<K: Key> Heap<K> {
