@@ -3,6 +3,7 @@ use Rattle.std.proofs.Common.{◌≡◌, ℕ, ◌+◌, ◌-◌, ◌/◌, ◌<◌
 use Rattle.std.proofs.lemmas.List.{get_or-set_same, get_or-set_other, get_or_past}
 use Rattle.std.proofs.lemmas.Bool.{cases_eq, cases_lt, lt-ltb, le-ltb, ltb-true, both_ways}
 use Rattle.lists.specs.Capacity.{capacity_limit}
+use Rattle.lists.specs.Sooner.{KeyOrder}
 use Rattle.lists.specs.Heaps.{earlier, ahead, Heaped, Loose, High}
 use Rattle.lists.specs.Least.{Least}
 use Rattle.lists.specs.Tidy.{Listed, Fronted}
@@ -51,9 +52,7 @@ module _ {K : Type 0} (keys : List (Option K)) (places : List ℕ) (number : ℕ
         written count last None (sym (le-ltb (get_or places number 0) last (omega arith)))
         (λ n ne l. ap (λ x. ltb (get_or places n 0) x) e ∙ sym (one_more (get_or places n 0) last (elsewhere n ne l))) fronted
 
-module _ {K : Type 0} (sooner : K → K → Bool) (irreflexive : (x : K) → sooner x x ≡ false)
-    (transitive : (x y z : K) → sooner x y ≡ true → sooner y z ≡ true → sooner x z ≡ true)
-    (ties : (x y : K) → sooner x y ≡ false → sooner y x ≡ false → x ≡ y) where
+module _ {K : Type 0} {sooner : K → K → Bool} (laws : KeyOrder sooner) where
   -- only the number at c changes its key, and all others stay where they are
   pub loose_at : (table table' : ℕ → Option K) (w w' : ℕ → ℕ) (n n' c number : ℕ)
       → ((m : ℕ) → (m ≡ number → ⊥) → table' m ≡ table m)
@@ -74,11 +73,8 @@ module _ {K : Type 0} (sooner : K → K → Bool) (irreflexive : (x : K) → soo
             let inside = (away i l ic).0 in
             let up : earlier sooner table (w i) (w c) ≡ false = subst (λ x. earlier sooner table (w i) (w x) ≡ false) e (heaped i low inside) in
             kept i ((c - 1) / 2) l (omega arith) ic pc
-            ((earlier_ranks sooner irreflexive transitive ties table).chain (w i) (w c) (w ((c - 1) / 2)) up (heaped c pos (omega arith)));
+            ((earlier_ranks laws table).chain (w i) (w c) (w ((c - 1) / 2)) up (heaped c pos (omega arith)));
       }
-
-  pub high_top : (table : ℕ → Option K) (w : ℕ → ℕ) (n : ℕ) → Heaped (earlier sooner table) w n → High (earlier sooner table) w n 0
-  high_top table w n heaped = record { others = λ i low l q. heaped i low l; across = λ i low l e pos. absurd (omega arith) }
 
   module _ (keys : List (Option K)) (order places : List ℕ) (count : ℕ) (full : length keys ≡ capacity_limit)
       (listed : Listed order places) (placed : Listed places order) (fronted : Fronted keys places count) where
@@ -106,11 +102,11 @@ module _ {K : Type 0} (sooner : K → K → Bool) (irreflexive : (x : K) → soo
         let first : (m : ℕ) (j : K) → table m ≡ Some j → earlier sooner table m top ≡ false =
         λ m j e. let p = held_place m j e in
         subst (λ x. earlier sooner table x top ≡ false) p.1
-        (top_first (earlier sooner table) (earlier_ranks sooner irreflexive transitive ties table) (λ i. get_or order i 0) count heaped (get_or places m 0) p.0) in (
+        (top_first (earlier sooner table) (earlier_ranks laws table) (λ i. get_or order i 0) count heaped (get_or places m 0) p.0) in (
           has.0,
           record {
             held = has.1;
-            least = λ m j e. key_not_sooner sooner irreflexive transitive ties table m top j has.0 e has.1 (first m j e);
-            lowest = λ m e. number_not_lower sooner irreflexive transitive ties table m top has.0 e has.1 (first m has.0 e);
+            least = λ m j e. key_not_sooner laws table m top j has.0 e has.1 (first m j e);
+            lowest = λ m e. number_not_lower laws table m top has.0 e has.1 (first m has.0 e);
           },
         )

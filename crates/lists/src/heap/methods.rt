@@ -5,11 +5,10 @@ ghost use Rattle.lists.specs.Heaps.{Loose, High};
 ghost use Rattle.lists.specs.Least.{Chosen, Without};
 ghost use Rattle.lists.specs.Tables.{heap_holds, heap_order, heap_earlier, InOrder};
 
-use std::array;
-
 use super::Heap;
 use crate::keys::Key;
 use crate::waiting::CAPACITY;
+use std::array;
 
 // Each number at its own place.
 fn in_order() -> [u16; CAPACITY]

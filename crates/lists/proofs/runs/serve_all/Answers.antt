@@ -28,7 +28,7 @@ loop-at-preserved g c =
     let went = subst (λ n. Answers sooner n (list.holds t) request answer (list.holds u)) inv.capacity c.serve.ensures.answer in
     record {
       capacity = c.serve.ensures.capacity ∙ inv.capacity;
-      answers = fronts_more sooner g.met.K.Key.ties (list.capacity s) (list.holds s) (list.holds t) (list.holds u) requests answers at request answer
+      answers = fronts_more sooner g.met.K.Key.laws.ties (list.capacity s) (list.holds s) (list.holds t) (list.holds u) requests answers at request answer
           (omega arith) (omega arith) (c.request-item.is ∙ get_or-take n requests at request l) inv.answers went;
       rest = drop-set-lt (at + 1) answers at answer (omega arith) ∙ sym (drop-drop 1 at answers) ∙ ap (drop 1) inv.rest ∙ drop-drop 1 at c.args.answers.now;
     }
@@ -49,5 +49,5 @@ returns g c =
       capacity = inv.capacity;
       answers = runs;
       rest = subst (λ k. drop k c.loop-at.answers ≡ drop k c.args.answers.now) all inv.rest;
-      decided = decided sooner g.met.K.Key.ties (list.capacity s) (list.holds s) (list.holds t) (take n c.args.requests.now) (take n c.loop-at.answers) runs;
+      decided = decided sooner g.met.K.Key.laws.ties (list.capacity s) (list.holds s) (list.holds t) (take n c.args.requests.now) (take n c.loop-at.answers) runs;
     }

@@ -19,7 +19,7 @@ invariant_of-self g c =
 
 pub returns-then-at-last : goal.returns-then-at-last
 returns-then-at-last g c =
-    let laws = g.met.K.Key in
+    let laws = g.met.K.Key.laws in
     let s = c.args.self.now in
     let number = c.args.number in
     let w = Some c.args.key in
@@ -27,7 +27,7 @@ returns-then-at-last g c =
     record {
       keys = refl;
       within = c.if-at-last.true;
-      loose = loose_at g.K.Key.sooner laws.irreflexive laws.transitive laws.ties
+      loose = loose_at laws
           (heap_holds s) (λ m. get_or (set s.keys number w) m None) (heap_order s) (heap_order s) s.count s.count (get_or s.places number 0) number
           (λ m ne. get_or-set_other s.keys number m w None ne)
           (λ i l ic. (l, refl, λ e. ic (sym (s.listed i (omega arith)).1 ∙ ap (λ x. get_or s.places x 0) e)))
@@ -55,7 +55,7 @@ invariant_of-self-2 g c =
 
 pub returns : goal.returns
 returns g c =
-    let laws = g.met.K.Key in
+    let laws = g.met.K.Key.laws in
     let s = c.args.self.now in
     let h = c.exchange.new.self in
     let went = c.exchange.ensures in
@@ -67,7 +67,7 @@ returns g c =
     record {
       keys = ap (λ ks. set ks number w) went.keys;
       within = omega arith;
-      loose = loose_at g.K.Key.sooner laws.irreflexive laws.transitive laws.ties
+      loose = loose_at laws
           (heap_holds s) (λ m. get_or (set h.keys number w) m None) (heap_order s) (heap_order h) last (last + 1) last number
           (λ m ne. get_or-set_other h.keys number m w None ne ∙ ap (λ ks. get_or ks m None) went.keys)
           (λ i l ic.

@@ -1,22 +1,21 @@
 use Rattle.std.proofs.Common.{◌≡◌, ◌-◌, get_or, set, None, sym, refl, ap, ◌∙◌, arith, lit<}
 use Rattle.std.proofs.lemmas.List.{length-set, get_or-set_other}
 use Rattle.lists.specs.Heaps.{earlier}
-use Rattle.lists.specs.Tables.{heap_holds, heap_order}
-use Rattle.lists.proofs.Ranking.{earlier_ranks}
-use Rattle.lists.proofs.Heaping.{rise_done}
+use Rattle.lists.specs.Tables.{heap_holds, heap_order, heap_earlier}
+use Rattle.lists.proofs.Heaping.{high_top, loose_top}
 use Rattle.lists.proofs.RowTables.{get_d_update}
-use Rattle.lists.proofs.Changing.{left_fronted, loose_at, high_top, none_held, top_least}
+use Rattle.lists.proofs.Changing.{left_fronted, loose_at, none_held, top_least}
 use Rattle.lists.proofs.heap.Heap.leave.Goals as goal
 
 pub returns-then-self-eq0 : goal.returns-then-self-eq0
 returns-then-self-eq0 g c =
-    let laws = g.met.K.Key in
+    let laws = g.met.K.Key.laws in
     let s = c.args.self.now in
     record {
-      chosen = none_held g.K.Key.sooner laws.irreflexive laws.transitive laws.ties
+      chosen = none_held laws
           s.keys s.order s.places s.count s.full.0 s.listed s.placed s.fronted c.if-self-eq0.true;
       table = λ n. refl;
-      high = high_top g.K.Key.sooner laws.irreflexive laws.transitive laws.ties (heap_holds s) (heap_order s) s.count c.requires;
+      high = high_top (heap_earlier g.K.Key.sooner s) (heap_order s) s.count (loose_top (heap_earlier g.K.Key.sooner s) (heap_order s) s.count c.requires);
     }
 
 pub invariant_of-self : goal.invariant_of-self
@@ -40,7 +39,7 @@ invariant_of-self g c =
 
 pub returns : goal.returns
 returns g c =
-    let laws = g.met.K.Key in
+    let laws = g.met.K.Key.laws in
     let sooner = g.K.Key.sooner in
     let s = c.args.self.now in
     let h = c.exchange.new.self in
@@ -51,7 +50,7 @@ returns g c =
     let full = s.full.0 in
     let some = c.if-self-eq0.false in
     let within = (s.listed 0 (omega arith)).0 in
-    let loose = loose_at g.K.Key.sooner laws.irreflexive laws.transitive laws.ties
+    let loose = loose_at laws
     (heap_holds s) (λ m. get_or (set h.keys number None) m None) (heap_order s) (heap_order h) s.count last 0 number
     (λ m ne. get_or-set_other h.keys number m None None ne ∙ ap (λ ks. get_or ks m None) went.keys)
     (λ i l ic. (
@@ -61,12 +60,10 @@ returns g c =
     ))
     c.requires in
     record {
-      chosen = top_least g.K.Key.sooner laws.irreflexive laws.transitive laws.ties
+      chosen = top_least laws
           s.keys s.order s.places s.count s.full.0 s.listed s.placed s.fronted (omega arith) s.full.3 c.requires;
       table = λ m. ap (λ ks. get_or (set ks number None) m None) went.keys ∙ get_d_update s.keys number None m (omega arith);
-      high = rise_done (earlier g.K.Key.sooner (λ m. get_or (set h.keys number None) m None))
-          (earlier_ranks g.K.Key.sooner laws.irreflexive laws.transitive laws.ties (λ m. get_or (set h.keys number None) m None))
-          (heap_order h) last 0 loose (λ pos. absurd (omega arith));
+      high = high_top (earlier g.K.Key.sooner (λ m. get_or (set h.keys number None) m None)) (heap_order h) last loose;
     }
 
 pub offset_bounds-self-number : goal.offset_bounds-self-number
