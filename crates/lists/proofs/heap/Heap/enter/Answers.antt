@@ -1,6 +1,5 @@
 use Rattle.std.proofs.Common.{◌≡◌, ◌+◌, ◌<◌, get_or, set, Some, None, sym, refl, ap, ◌∙◌, subst, arith}
 use Rattle.std.proofs.lemmas.List.{length-set, get_or-set_other}
-use Rattle.lists.specs.Tidy.{Fronted}
 use Rattle.lists.specs.Tables.{heap_holds, heap_order}
 use Rattle.lists.proofs.Changing.{replaced_fronted, entered_fronted, loose_at}
 use Rattle.lists.proofs.heap.Heap.enter.Goals as goal
@@ -14,7 +13,7 @@ invariant_of-self g c =
       full = (length-set s.keys number (Some c.args.key) ∙ full.0, full.1, full.2, full.3);
       listed = s.listed;
       placed = s.placed;
-      fronted = replaced_fronted s.keys s.places number full.0 c.requires.within s.count c.args.key c.if-at-last.true s.fronted;
+      fronted = replaced_fronted s number c.requires.within c.args.key c.if-at-last.true;
     }
 
 pub returns-then-at-last : goal.returns-then-at-last
@@ -30,7 +29,7 @@ returns-then-at-last g c =
       loose = loose_at laws
           (heap_holds s) (λ m. get_or (set s.keys number w) m None) (heap_order s) (heap_order s) s.count s.count (get_or s.places number 0) number
           (λ m ne. get_or-set_other s.keys number m w None ne)
-          (λ i l ic. (l, refl, λ e. ic (sym (s.listed i (omega arith)).1 ∙ ap (λ x. get_or s.places x 0) e)))
+          (λ i l ic. (l, refl, λ e. ic (sym (s.listed.back i (omega arith)) ∙ ap (λ x. get_or s.places x 0) e)))
           c.requires.order;
     }
 
@@ -42,15 +41,14 @@ invariant_of-self-2 g c =
     let number = c.args.number in
     let last = s.count in
     let left = c.if-at-last.false in
-    let inside = (s.placed number c.requires.within).0 in
+    let inside = (s.placed.inside number c.requires.within) in
     let at : get_or h.places number 0 ≡ last =
-    sym (ap (λ x. get_or h.places x 0) (went.order.1 ∙ (s.placed number c.requires.within).1)) ∙ (h.listed last (omega arith)).1 in
+    sym (ap (λ x. get_or h.places x 0) (went.order.1 ∙ (s.placed.back number c.requires.within))) ∙ (h.listed.back last (omega arith)) in
     record {
       full = (length-set h.keys number (Some c.args.key) ∙ h.full.0, h.full.1, h.full.2, omega arith);
       listed = h.listed;
       placed = h.placed;
-      fronted = entered_fronted h.keys h.places number h.full.0 c.requires.within h.order last h.placed at c.args.key
-          (subst (λ n. Fronted h.keys h.places n) went.count h.fronted);
+      fronted = entered_fronted h number c.requires.within last at c.args.key went.count;
     }
 
 pub returns : goal.returns
@@ -74,7 +72,7 @@ returns g c =
           let inside : i < last = omega arith in (
             inside,
             went.order.2 i (λ e. omega arith) ic,
-            λ e. let same : i ≡ get_or s.places number 0 = sym (s.listed i (omega arith)).1 ∙ ap (λ x. get_or s.places x 0) e in omega arith,
+            λ e. let same : i ≡ get_or s.places number 0 = sym (s.listed.back i (omega arith)) ∙ ap (λ x. get_or s.places x 0) e in omega arith,
           ))
           c.requires.order;
     }

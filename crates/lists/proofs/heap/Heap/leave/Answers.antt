@@ -9,11 +9,9 @@ use Rattle.lists.proofs.heap.Heap.leave.Goals as goal
 
 pub returns-then-self-eq0 : goal.returns-then-self-eq0
 returns-then-self-eq0 g c =
-    let laws = g.met.K.Key.laws in
     let s = c.args.self.now in
     record {
-      chosen = none_held laws
-          s.keys s.order s.places s.count s.full.0 s.listed s.placed s.fronted c.if-self-eq0.true;
+      chosen = none_held s c.if-self-eq0.true;
       table = λ n. refl;
       high = high_top (heap_earlier g.K.Key.sooner s) (heap_order s) s.count (loose_top (heap_earlier g.K.Key.sooner s) (heap_order s) s.count c.requires);
     }
@@ -27,14 +25,14 @@ invariant_of-self g c =
     let last = s.count - 1 in
     let counted = s.full.3 in
     let some = c.if-self-eq0.false in
-    let within = (s.listed 0 (omega arith)).0 in
+    let within = (s.listed.inside 0 (omega arith)) in
     let same = went.count in
-    let at : get_or h.places number 0 ≡ last = sym (ap (λ x. get_or h.places x 0) went.order.1) ∙ (h.listed last (omega arith)).1 in
+    let at : get_or h.places number 0 ≡ last = sym (ap (λ x. get_or h.places x 0) went.order.1) ∙ (h.listed.back last (omega arith)) in
     record {
       full = (length-set h.keys number None ∙ h.full.0, h.full.1, h.full.2, omega arith);
       listed = h.listed;
       placed = h.placed;
-      fronted = left_fronted h.keys h.places number h.full.0 within h.order last h.placed at h.count (omega arith) h.fronted;
+      fronted = left_fronted h number within last at (omega arith);
     }
 
 pub returns : goal.returns
@@ -49,28 +47,18 @@ returns g c =
     let counted = s.full.3 in
     let full = s.full.0 in
     let some = c.if-self-eq0.false in
-    let within = (s.listed 0 (omega arith)).0 in
+    let within = (s.listed.inside 0 (omega arith)) in
     let loose = loose_at laws
     (heap_holds s) (λ m. get_or (set h.keys number None) m None) (heap_order s) (heap_order h) s.count last 0 number
     (λ m ne. get_or-set_other h.keys number m None None ne ∙ ap (λ ks. get_or ks m None) went.keys)
     (λ i l ic. (
       omega arith,
       went.order.2 i ic (λ e. omega arith),
-      λ e. ic (sym (s.listed i (omega arith)).1 ∙ ap (λ x. get_or s.places x 0) e ∙ (s.listed 0 (omega arith)).1),
+      λ e. ic (sym (s.listed.back i (omega arith)) ∙ ap (λ x. get_or s.places x 0) e ∙ (s.listed.back 0 (omega arith))),
     ))
     c.requires in
     record {
-      chosen = top_least laws
-          s.keys s.order s.places s.count s.full.0 s.listed s.placed s.fronted (omega arith) s.full.3 c.requires;
+      chosen = top_least s laws (omega arith) c.requires;
       table = λ m. ap (λ ks. get_or (set ks number None) m None) went.keys ∙ get_d_update s.keys number None m (omega arith);
       high = high_top (earlier g.K.Key.sooner (λ m. get_or (set h.keys number None) m None)) (heap_order h) last loose;
     }
-
-pub offset_bounds-self-number : goal.offset_bounds-self-number
-offset_bounds-self-number g c = let l = (c.args.self.now.listed 0 (lit< tt)).0 in omega arith
-
-pub listed : goal.listed
-listed g c = let l = (c.args.self.now.listed 0 (lit< tt)).0 in let full = c.exchange.new.self.full.0 in omega arith
-
-pub bounds-self-number : goal.bounds-self-number
-bounds-self-number g c = let l = (c.args.self.now.listed 0 (lit< tt)).0 in omega arith

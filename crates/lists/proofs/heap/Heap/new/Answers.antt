@@ -10,7 +10,10 @@ invariant_of-result g c =
     let r = c.in_order-order.result in
     let full = c.in_order-order.ensures.length in
     let at = c.in_order-order.ensures.places in
-    let listed : Listed r r = λ i l. (subst (λ x. x < capacity_limit) (sym (at i l)) l, ap (λ x. get_or r x 0) (at i l) ∙ at i l) in
+    let listed : Listed r r = record {
+      inside = λ i l. subst (λ x. x < capacity_limit) (sym (at i l)) l;
+      back = λ i l. ap (λ x. get_or r x 0) (at i l) ∙ at i l;
+    } in
     record {
       full = (refl, full, full, lit≤ tt);
       listed = listed;
