@@ -1,5 +1,7 @@
 -- A key that a number of a heap gets or gives up. Assumes nothing.
-use Rattle.std.proofs.Common.{◌≡◌, ℕ, ◌+◌, ◌-◌, ◌/◌, ◌<◌, ◌≤◌, Bool, true, false, ltb, List, length, get_or, set, is_some, Some, None, Option, sym, refl, ap, ◌∙◌, subst, subst₂, ⊎_elim, arith, lit<}
+use Rattle.std.proofs.Common.{◌≡◌, ℕ, ◌+◌, ◌-◌, ◌/◌, ◌<◌, ◌≤◌, Bool, true, false, eqb, ltb, List, length, get_or, set, is_some, Some, None, Option, sym, refl, ap, ◌∙◌, subst, subst₂, ⊎_elim, arith, lit<}
+use Rattle.std.specs.Map.{update}
+use Rattle.std.proofs.lemmas.Map.{update_here, update_apart}
 use Rattle.std.proofs.lemmas.List.{get_or-set_same, get_or-set_other, get_or_past}
 use Rattle.std.proofs.lemmas.Bool.{cases_eq, cases_lt, lt-ltb, le-ltb, ltb-true, both_ways}
 use Rattle.lists.specs.Capacity.{capacity_limit}
@@ -27,6 +29,14 @@ none_from (Some k) e = absurd (both_ways true e refl)
 some_from : {K : Type 0} (o : Option K) → is_some o ≡ true → (k : K) × (o ≡ Some k)
 some_from None e = absurd (both_ways false refl e)
 some_from (Some k) e = (k, refl)
+
+-- a list of options where one is written, as a table from numbers
+pub set_is_update : {K : Type 0} (keys : List (Option K)) (n : ℕ) (w : Option K) (m : ℕ) → n < length keys → get_or (set keys n w) m None ≡ update eqb (λ m. get_or keys m None) n w m
+set_is_update keys n w m l =
+    ⊎_elim
+    (λ e. subst (λ x. get_or (set keys n w) x None ≡ update eqb (λ m. get_or keys m None) n w x) (sym e) (get_or-set_same keys n w None l ∙ sym (update_here (λ m. get_or keys m None) n w)))
+    (λ ne. get_or-set_other keys n m w None ne ∙ sym (update_apart (λ m. get_or keys m None) n w m ne))
+    (cases_eq m n)
 
 module _ {K : Type 0} (h : Heap K) (number : ℕ) (within : number < capacity_limit) where
   abbrev place : ℕ → ℕ

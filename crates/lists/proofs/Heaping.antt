@@ -113,27 +113,27 @@ module _ (lt : ℕ → ℕ → Bool) (ranks : IsStrictWeakOrder lt) where
     either_place : (i : ℕ) → 0 < i → (i - 1) / 2 ≡ c → (i ≡ 2 * c + 1) ⊎ (i ≡ 2 * c + 1 + 1)
     either_place i low e = ⊎_elim (λ s. inl s) (λ s. inr (omega arith)) (cases_eq i (2 * c + 1))
 
-    pub left_first : 2 * c + 1 + 1 < n → lt (w (2 * c + 1 + 1)) (w (2 * c + 1)) ≡ false → First lt w n c (2 * c + 1)
+    pub left_first : 2 * c + 1 + 1 < n → false ≡ lt (w (2 * c + 1 + 1)) (w (2 * c + 1)) → First lt w n c (2 * c + 1)
     left_first l h = record {
       lower = omega arith;
       inside = omega arith;
       place = omega arith;
       first = λ i low in' e. ⊎_elim
           (λ s. subst (λ x. lt (w x) (w (2 * c + 1)) ≡ false) (sym s) (itself (w (2 * c + 1))))
-          (λ s. subst (λ x. lt (w x) (w (2 * c + 1)) ≡ false) (sym s) h)
+          (λ s. subst (λ x. lt (w x) (w (2 * c + 1)) ≡ false) (sym s) (sym h))
           (either_place i low e);
     }
 
-    pub right_first : 2 * c + 1 + 1 < n → lt (w (2 * c + 1 + 1)) (w (2 * c + 1)) ≡ true → First lt w n c (2 * c + 1 + 1)
+    pub right_first : 2 * c + 1 + 1 < n → true ≡ lt (w (2 * c + 1 + 1)) (w (2 * c + 1)) → First lt w n c (2 * c + 1 + 1)
     right_first l h = record {
       lower = omega arith;
       inside = l;
       place = omega arith;
       first = λ i low in' e. ⊎_elim
-          (λ s. subst (λ x. lt (w x) (w (2 * c + 1 + 1)) ≡ false) (sym s) (ranks.one_way (w (2 * c + 1 + 1)) (w (2 * c + 1)) h))
+          (λ s. subst (λ x. lt (w x) (w (2 * c + 1 + 1)) ≡ false) (sym s) (ranks.one_way (w (2 * c + 1 + 1)) (w (2 * c + 1)) (sym h)))
           (λ s. subst (λ x. lt (w x) (w (2 * c + 1 + 1)) ≡ false) (sym s) (itself (w (2 * c + 1 + 1))))
           (either_place i low e);
     }
 
-    pub none_before : (s : ℕ) → First lt w n c s → lt (w s) (w c) ≡ false → (i : ℕ) → 0 < i → i < n → (i - 1) / 2 ≡ c → lt (w i) (w c) ≡ false
-    none_before s fst h i low in' e = ranks.chain (w i) (w s) (w c) (fst.first i low in' e) h
+    pub none_before : (s : ℕ) → First lt w n c s → false ≡ lt (w s) (w c) → (i : ℕ) → 0 < i → i < n → (i - 1) / 2 ≡ c → lt (w i) (w c) ≡ false
+    none_before s fst h i low in' e = ranks.chain (w i) (w s) (w c) (fst.first i low in' e) (sym h)

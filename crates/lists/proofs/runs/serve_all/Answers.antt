@@ -6,8 +6,13 @@ use Rattle.lists.proofs.runs.serve_all.Goals as goal
 
 pub loop-at-init : goal.loop-at-init
 loop-at-init g c =
-    let table = g.L.WaitingList.holds c.args.list.now in
-    record { capacity = refl; answers = ends table table (λ n. refl); rest = refl }
+    let list = g.L.WaitingList in
+    let table = list.holds c.args.list.now in
+    record {
+      capacity = refl {a = list.capacity c.args.list.now};
+      answers = ends table table (λ n. refl {a = table n});
+      rest = refl {a = c.args.answers.now};
+    }
 
 pub loop-at-preserved : goal.loop-at-preserved
 loop-at-preserved g c =
