@@ -8,6 +8,7 @@ pub trait Key: Copy {
     // Whether the first key comes before the second.
     ghost sooner: { Self → Self → Bool };
 
+    // It has no body here, since that would have to hold for any `sooner`.
     fn precedes(&self, other: &Self) -> bool
         ensures { result ≡ sooner self.now other.now };
 
@@ -15,7 +16,7 @@ pub trait Key: Copy {
 }
 
 // Ordered by the sum, then the estimate, then the entry.
-#[derive(Clone, Copy, PartialEq, PartialOrd)]
+#[derive(Clone, Copy, Debug, PartialEq, Eq, PartialOrd)]
 pub struct SearchKey {
     pub sum: u32,
     pub estimate: u32,
@@ -33,7 +34,7 @@ impl Key for SearchKey {
 }
 
 // Ordered by the distance, then the fact.
-#[derive(Clone, Copy, PartialEq, PartialOrd)]
+#[derive(Clone, Copy, Debug, PartialEq, Eq, PartialOrd)]
 pub struct DistanceKey {
     pub distance: u32,
     pub fact: u16,

@@ -1,4 +1,4 @@
-// How numbers move within the heap.
+// How numbers move within the heap. A place is a plain number: a struct that knows its bound would be opened in each sum and clause.
 ghost use Rattle.std.specs.Prelude.{◌≡◌, ◌<◌, nat_lt};
 ghost use Rattle.std.proofs.lemmas.List.Edits.{Swapped};
 ghost use Rattle.lists.specs.Capacity.{capacity_limit};
@@ -49,6 +49,7 @@ impl<K: Key> Heap<K> {
         ensures count { self.new.count ≡ self.old.count }
         ensures order { Swapped (heap_order self.old) (heap_order self.new) i j }
     {
+        // Written one by one: with `swap` on both arrays a fill and drain took a fifth longer.
         let a = self.order[i];
         let b = self.order[j];
         self.order[i] = b;
