@@ -1,5 +1,5 @@
 -- A key that a number of a heap gets or gives up. Assumes nothing.
-use Rattle.std.proofs.Common.{◌≡◌, ℕ, ◌+◌, ◌-◌, ◌/◌, ◌<◌, ◌≤◌, Bool, true, false, eqb, ltb, List, length, get_or, set, is_some, Some, None, Option, sym, refl, ap, ◌∙◌, subst, subst₂, ⊎_elim, arith, lit<}
+use Rattle.std.proofs.Common.{◌≡◌, ℕ, ◌+◌, ◌-◌, ◌/◌, ◌<◌, Bool, true, false, eqb, ltb, List, length, get_or, set, is_some, Some, None, Option, sym, refl, ap, ◌∙◌, subst, subst₂, ⊎_elim, arith, lit<}
 use Rattle.std.specs.Map.{update}
 use Rattle.std.proofs.lemmas.Map.{update_here, update_apart}
 use Rattle.std.proofs.lemmas.List.{get_or-set_same, get_or-set_other, get_or_past}
@@ -7,7 +7,7 @@ use Rattle.std.proofs.lemmas.Bool.{cases_eq, cases_lt, lt-ltb, le-ltb, ltb-true,
 use Rattle.lists.specs.Capacity.{capacity_limit}
 use Rattle.lists.specs.declared.heap.Heap.{Heap}
 use Rattle.lists.specs.Sooner.{KeyOrder}
-use Rattle.lists.specs.Heaps.{earlier, ahead, Heaped, Loose, High}
+use Rattle.lists.specs.Heaps.{earlier, ahead, Heaped, Loose}
 use Rattle.lists.specs.Least.{Least}
 use Rattle.lists.specs.Tables.{heap_holds, heap_order, heap_earlier, InOrder}
 use Rattle.lists.specs.Tidy.{Fronted}
@@ -21,10 +21,6 @@ one_more p last ne = ⊎_elim
     (λ l. lt-ltb p last l ∙ sym (lt-ltb p (last + 1) (omega arith)))
     (λ l. le-ltb p last l ∙ sym (le-ltb p (last + 1) (omega arith)))
     (cases_lt p last)
-
-none_from : {K : Type 0} (o : Option K) → is_some o ≡ false → o ≡ None
-none_from None e = refl
-none_from (Some k) e = absurd (both_ways true e refl)
 
 some_from : {K : Type 0} (o : Option K) → is_some o ≡ true → (k : K) × (o ≡ Some k)
 some_from None e = absurd (both_ways false refl e)
@@ -95,14 +91,6 @@ module _ {K : Type 0} {sooner : K → K → Bool} (laws : KeyOrder sooner) where
       }
 
 module _ {K : Type 0} (h : Heap K) where
-  pub none_held : h.count ≡ 0 → (n : ℕ) → heap_holds h n ≡ None
-  none_held e n =
-      let full = h.full.0 in
-      ⊎_elim
-      (λ l. none_from (heap_holds h n) (h.fronted n l ∙ le-ltb (get_or h.places n 0) h.count (omega arith)))
-      (λ l. get_or_past h.keys n None (omega arith))
-      (cases_lt n capacity_limit)
-
   -- the place of a number that holds a key
   held_place : (n : ℕ) (k : K) → heap_holds h n ≡ Some k → (get_or h.places n 0 < h.count) × (heap_order h (get_or h.places n 0) ≡ n)
   held_place n k e =

@@ -1,6 +1,5 @@
 -- Two numbers of a heap that change places. Assumes nothing.
-use Rattle.std.proofs.Common.{◌≡◌, ℕ, ◌<◌, Bool, ltb, List, length, get_or, set, sym, refl, ap, ◌∙◌, subst, ⊎_elim, ap₂, arith}
-use Rattle.std.proofs.lemmas.List.{length-set}
+use Rattle.std.proofs.Common.{◌≡◌, ℕ, ◌<◌, Bool, ltb, List, get_or, set, sym, refl, ap, ◌∙◌, subst, ⊎_elim, ap₂, arith}
 use Rattle.std.proofs.lemmas.List.Edits.{Swapped, swapped_from_swap, swap_is}
 use Rattle.std.proofs.lemmas.Bool.{cases_eq}
 use Rattle.lists.specs.Capacity.{capacity_limit}
@@ -69,10 +68,6 @@ module _ {K : Type 0} (s : Heap K) (i j : ℕ) (li : i < capacity_limit) (lj : j
       let l = la in
       let m = lb in
       swapped_from_swap s.places places' a b 0 (omega arith) (omega arith) (same_places ∙ swap_is s.places a b 0 (omega arith) (omega arith))
-
-  pub still_full : (length order' ≡ capacity_limit) × (length places' ≡ capacity_limit)
-  still_full =
-      (length-set (set s.order i b) j a ∙ length-set s.order i b ∙ s.full.1, length-set (set s.places a j) b i ∙ length-set s.places a j ∙ s.full.2)
 
   pub still_listed : Listed order' places'
   still_listed =

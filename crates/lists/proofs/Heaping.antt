@@ -9,9 +9,6 @@ use Rattle.lists.specs.Heaps.{Heaped, Loose, High, Above, First}
 pub high_top : (lt : ℕ → ℕ → Bool) (w : ℕ → ℕ) (n : ℕ) → Loose lt w n 0 → High lt w n 0
 high_top lt w n loose = record { loose = loose; above = λ pos in'. absurd (omega arith) }
 
-pub loose_top : (lt : ℕ → ℕ → Bool) (w : ℕ → ℕ) (n : ℕ) → Heaped lt w n → Loose lt w n 0
-loose_top lt w n heaped = record { others = λ i low l ic q. heaped i low l; across = λ i low l e pos. absurd (omega arith) }
-
 module _ (lt : ℕ → ℕ → Bool) where
   -- what w shows of two places, at what v has there
   moved : (w v : ℕ → ℕ) (i j a b : ℕ) → v i ≡ w a → v j ≡ w b → lt (w a) (w b) ≡ false → lt (v i) (v j) ≡ false
@@ -102,14 +99,6 @@ module _ (lt : ℕ → ℕ → Bool) (ranks : IsStrictWeakOrder lt) where
 
   -- which of the places below c comes first
   module _ (w : ℕ → ℕ) (n c : ℕ) where
-    pub only_left : 2 * c + 1 < n → n ≤ 2 * c + 1 + 1 → First lt w n c (2 * c + 1)
-    only_left l m = record {
-      lower = omega arith;
-      inside = l;
-      place = omega arith;
-      first = λ i low in' e. let s : i ≡ 2 * c + 1 = omega arith in subst (λ x. lt (w x) (w (2 * c + 1)) ≡ false) (sym s) (itself (w (2 * c + 1)));
-    }
-
     either_place : (i : ℕ) → 0 < i → (i - 1) / 2 ≡ c → (i ≡ 2 * c + 1) ⊎ (i ≡ 2 * c + 1 + 1)
     either_place i low e = ⊎_elim (λ s. inl s) (λ s. inr (omega arith)) (cases_eq i (2 * c + 1))
 

@@ -1,5 +1,5 @@
 -- What a heap is after one move, and what is taken from it. Assumes nothing.
-use Rattle.std.proofs.Common.{◌≡◌, ℕ, ◌<◌, Bool, true, false, get_or, None, sym, subst₂}
+use Rattle.std.proofs.Common.{◌≡◌, ℕ, ◌<◌, Bool, true, get_or, None, sym, subst₂}
 use Rattle.std.specs.Cmp.{IsStrictWeakOrder}
 use Rattle.std.proofs.lemmas.List.Edits.{Swapped}
 use Rattle.lists.specs.declared.heap.Heap.{Heap}

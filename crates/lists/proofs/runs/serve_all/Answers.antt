@@ -1,4 +1,4 @@
-use Rattle.std.proofs.Common.{◌≡◌, ◌+◌, ◌<◌, ◌≤◌, length, take, drop, get_or, sym, refl, ap, ◌∙◌, subst, arith, rules}
+use Rattle.std.proofs.Common.{◌≡◌, ◌+◌, ◌<◌, take, drop, sym, refl, ap, ◌∙◌, subst, arith, rules}
 use Rattle.std.proofs.lemmas.List.{drop-set-lt, drop-drop, get_or-take, length-take-le}
 use Rattle.lists.specs.Runs.{Answers, Runs, ends}
 use Rattle.lists.proofs.Deciding.{decided, fronts_more}
