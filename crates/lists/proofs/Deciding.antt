@@ -2,10 +2,11 @@
 use Rattle.std.proofs.Common.{◌≡◌, ℕ, ◌+◌, ◌<◌, ◌≤◌, Bool, false, List, [], ◌∷◌, ◌++◌, length, get_or, take, set, Some, None, Option, sym, refl, ap, ◌∙◌, subst, ap₂, subst₂, arith}
 use Rattle.std.proofs.lemmas.List.{take_more, take_more_set}
 use Rattle.lists.specs.declared.runs.Answer.{Answer}
+use Rattle.lists.specs.declared.runs.Answer.TheVariants.{Taken}
 use Rattle.lists.specs.declared.runs.Request.{Request}
 use Rattle.lists.specs.declared.runs.Request.TheVariants.{Empty, Put, Take}
 use Rattle.lists.specs.Least.{Least, Chosen, Without}
-use Rattle.lists.specs.Runs.{taken, Answers, Runs, ends, goes_on, Decided}
+use Rattle.lists.specs.Runs.{Answers, Runs, ends, goes_on, Decided}
 use Rattle.lists.proofs.Scanning.{some_none}
 
 without_same : {K : Type 0} (table after after' : ℕ → Option K) (r : Option ℕ) → Without table after r → Without table after' r → (n : ℕ) → after' n ≡ after n
@@ -34,7 +35,7 @@ module _ {K : Type 0} (sooner : K → K → Bool) (ties : (x y : K) → sooner x
     answers_same table after after' (Put number key) answer answer' h h' = (h'.0 ∙ sym h.0, λ n. h'.1 n ∙ sym (h.1 n))
     answers_same table after after' Take answer answer' (r, says, chosen, without) (r', says', chosen', without') =
         let same : r' ≡ r = chosen_same table r r' chosen chosen' in
-        (says' ∙ ap taken same ∙ sym says, without_same table after after' r without (subst (Without table after') same without'))
+        (says' ∙ ap Taken same ∙ sym says, without_same table after after' r without (subst (Without table after') same without'))
 
     pub decided : (table after : ℕ → Option K) (requests : List (Request K)) (answers : List Answer)
         → Runs sooner capacity table requests answers after → Decided sooner capacity table requests answers after

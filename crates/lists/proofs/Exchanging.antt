@@ -1,8 +1,9 @@
 -- Two numbers of a heap that change places. Assumes nothing.
-use Rattle.std.proofs.Common.{◌≡◌, ℕ, ◌<◌, ltb, List, length, get_or, set, Option, sym, refl, ap, ◌∙◌, subst, ⊎_elim, arith}
+use Rattle.std.proofs.Common.{◌≡◌, ℕ, ◌<◌, Bool, ltb, List, get_or, set, sym, refl, ap, ◌∙◌, subst, ⊎_elim, ap₂, arith}
 use Rattle.std.proofs.lemmas.List.Edits.{Swapped, swapped_from_swap, swap_is}
 use Rattle.std.proofs.lemmas.Bool.{cases_eq}
 use Rattle.lists.specs.Capacity.{capacity_limit}
+use Rattle.lists.specs.declared.heap.Heap.{Heap}
 use Rattle.lists.specs.Tidy.{Listed, Fronted}
 
 -- o has a number at each place, and p the place of each number
@@ -25,55 +26,69 @@ inverse_swapped o p o' p' i j a b la lb oi oj pa pb inv (oi', oj', o-rest) (pa',
     (cases_eq k j))
     (cases_eq k i)
 
-module _ (order places : List ℕ) (i j : ℕ) (full : length order ≡ capacity_limit) (also : length places ≡ capacity_limit)
-    (li : i < capacity_limit) (lj : j < capacity_limit) (listed : Listed order places) (placed : Listed places order) where
+abbrev read : List ℕ → ℕ → ℕ
+read xs k = get_or xs k 0
+
+inverse : (order places : List ℕ) → Listed order places → Inverse (read order) (read places)
+inverse order places h k l = (h.inside k l, h.back k l)
+
+listed : (order places : List ℕ) → Inverse (read order) (read places) → Listed order places
+listed order places h = record { inside = λ k l. (h k l).0; back = λ k l. (h k l).1 }
+
+module _ {K : Type 0} (s : Heap K) (i j : ℕ) (li : i < capacity_limit) (lj : j < capacity_limit) where
+  abbrev a : ℕ
+  a = get_or s.order i 0
+
+  abbrev b : ℕ
+  b = get_or s.order j 0
+
   abbrev pub order' : List ℕ
-  order' = set (set order i (get_or order j 0)) j (get_or order i 0)
+  order' = set (set s.order i b) j a
 
   abbrev pub places' : List ℕ
-  places' = set (set places (get_or order i 0) j) (get_or order j 0) i
+  places' = set (set s.places a j) b i
 
-  pub order_swapped : Swapped (λ k. get_or order k 0) (λ k. get_or order' k 0) i j
-  order_swapped = swapped_from_swap order order' i j 0 (omega arith) (omega arith) (swap_is order i j 0 (omega arith) (omega arith))
+  la : a < capacity_limit
+  la = s.listed.inside i li
 
-  abbrev by_places : List ℕ
-  by_places = set (set places (get_or order i 0) (get_or places (get_or order j 0) 0)) (get_or order j 0) (get_or places (get_or order i 0) 0)
+  lb : b < capacity_limit
+  lb = s.listed.inside j lj
 
-  same_places : places' ≡ by_places
-  same_places =
-      ap (λ x. set (set places (get_or order i 0) j) (get_or order j 0) x) (sym (listed i li).1)
-      ∙ ap (λ x. set (set places (get_or order i 0) x) (get_or order j 0) (get_or places (get_or order i 0) 0)) (sym (listed j lj).1)
+  pub order_swapped : Swapped (read s.order) (read order') i j
+  order_swapped =
+      let full = s.full.1 in
+      swapped_from_swap s.order order' i j 0 (omega arith) (omega arith) (swap_is s.order i j 0 (omega arith) (omega arith))
 
-  places_swapped : Swapped (λ k. get_or places k 0) (λ k. get_or places' k 0) (get_or order i 0) (get_or order j 0)
+  same_places : places' ≡ set (set s.places a (get_or s.places b 0)) b (get_or s.places a 0)
+  same_places = ap₂ (λ x y. set (set s.places a x) b y) (sym (s.listed.back j lj)) (sym (s.listed.back i li))
+
+  places_swapped : Swapped (read s.places) (read places') a b
   places_swapped =
-      let la = (listed i li).0 in
-      let lb = (listed j lj).0 in
-      swapped_from_swap places places' (get_or order i 0) (get_or order j 0) 0 (omega arith) (omega arith)
-      (same_places ∙ swap_is places (get_or order i 0) (get_or order j 0) 0 (omega arith) (omega arith))
+      let full = s.full.2 in
+      let l = la in
+      let m = lb in
+      swapped_from_swap s.places places' a b 0 (omega arith) (omega arith) (same_places ∙ swap_is s.places a b 0 (omega arith) (omega arith))
 
   pub still_listed : Listed order' places'
   still_listed =
-      inverse_swapped (λ k. get_or order k 0) (λ k. get_or places k 0) (λ k. get_or order' k 0) (λ k. get_or places' k 0) i j
-      (get_or order i 0) (get_or order j 0) (listed i li).0 (listed j lj).0 refl refl (listed i li).1 (listed j lj).1 listed
-      order_swapped places_swapped
+      listed order' places' (inverse_swapped (read s.order) (read s.places) (read order') (read places') i j a b la lb
+      refl refl (s.listed.back i li) (s.listed.back j lj) (inverse s.order s.places s.listed) order_swapped places_swapped)
 
   pub still_placed : Listed places' order'
   still_placed =
-      inverse_swapped (λ k. get_or places k 0) (λ k. get_or order k 0) (λ k. get_or places' k 0) (λ k. get_or order' k 0)
-      (get_or order i 0) (get_or order j 0) i j li lj (listed i li).1 (listed j lj).1 refl refl placed
-      places_swapped order_swapped
+      listed places' order' (inverse_swapped (read s.places) (read s.order) (read places') (read order') a b i j li lj
+      (s.listed.back i li) (s.listed.back j lj) refl refl (inverse s.places s.order s.placed) places_swapped order_swapped)
 
-  pub still_fronted : {K : Type 0} (keys : List (Option K)) (count : ℕ) → ltb i count ≡ ltb j count → Fronted keys places count → Fronted keys places' count
-  still_fronted keys count alike fronted n l =
-      let a = get_or order i 0 in
-      let b = get_or order j 0 in
+  pub still_fronted : ltb i s.count ≡ ltb j s.count → Fronted s.keys places' s.count
+  still_fronted alike n l =
+      let front : ℕ → Bool = λ x. ltb x s.count in
+      let place : ℕ → ℕ = read s.places in
+      let place' : ℕ → ℕ = read places' in
       let moved = places_swapped in
-      ⊎_elim
-      (λ na. fronted n l ∙ ap (λ x. ltb (get_or places x 0) count) na ∙ ap (λ x. ltb x count) (listed i li).1 ∙ alike
-      ∙ sym (ap (λ x. ltb (get_or places' x 0) count) na ∙ ap (λ x. ltb x count) (moved.0 ∙ (listed j lj).1)))
+      s.fronted n l ∙ ⊎_elim
+      (λ na. ap (λ x. front (place x)) na ∙ ap front (s.listed.back i li) ∙ alike ∙ sym (ap (λ x. front (place' x)) na ∙ ap front (moved.0 ∙ s.listed.back j lj)))
       (λ na. ⊎_elim
-      (λ nb. fronted n l ∙ ap (λ x. ltb (get_or places x 0) count) nb ∙ ap (λ x. ltb x count) (listed j lj).1 ∙ sym alike
-      ∙ sym (ap (λ x. ltb (get_or places' x 0) count) nb ∙ ap (λ x. ltb x count) (moved.1 ∙ (listed i li).1)))
-      (λ nb. fronted n l ∙ sym (ap (λ x. ltb x count) (moved.2 n na nb)))
+      (λ nb. ap (λ x. front (place x)) nb ∙ ap front (s.listed.back j lj) ∙ sym alike ∙ sym (ap (λ x. front (place' x)) nb ∙ ap front (moved.1 ∙ s.listed.back i li)))
+      (λ nb. sym (ap front (moved.2 n na nb)))
       (cases_eq n b))
       (cases_eq n a)

@@ -5,6 +5,10 @@ use Rattle.std.proofs.lemmas.List.Edits.{Swapped}
 use Rattle.std.proofs.lemmas.Bool.{cases_eq, cases_Bool}
 use Rattle.lists.specs.Heaps.{Heaped, Loose, High, Above, First}
 
+-- where only the top may stand too low, it can only stand too high
+pub high_top : (lt : ℕ → ℕ → Bool) (w : ℕ → ℕ) (n : ℕ) → Loose lt w n 0 → High lt w n 0
+high_top lt w n loose = record { loose = loose; above = λ pos in'. absurd (omega arith) }
+
 module _ (lt : ℕ → ℕ → Bool) where
   -- what w shows of two places, at what v has there
   moved : (w v : ℕ → ℕ) (i j a b : ℕ) → v i ≡ w a → v j ≡ w b → lt (w a) (w b) ≡ false → lt (v i) (v j) ≡ false
@@ -13,6 +17,13 @@ module _ (lt : ℕ → ℕ → Bool) where
 module _ (lt : ℕ → ℕ → Bool) (ranks : IsStrictWeakOrder lt) where
   pub itself : (x : ℕ) → lt x x ≡ false
   itself x = ⊎_elim (λ e. ranks.one_way x x e) (λ e. e) (cases_Bool (lt x x))
+
+  -- but at what stands below c, a heap is in order where c may only stand too high
+  high_others : (w : ℕ → ℕ) (n c : ℕ) → High lt w n c → (i : ℕ) → 0 < i → i < n → ((i - 1) / 2 ≡ c → ⊥) → lt (w i) (w ((i - 1) / 2)) ≡ false
+  high_others w n c high i low in' qc = ⊎_elim
+      (λ ic. subst (λ x. lt (w x) (w ((x - 1) / 2)) ≡ false) (sym ic) (high.above (omega arith) (omega arith)))
+      (λ ic. high.loose.others i low in' ic qc)
+      (cases_eq i c)
 
   module _ (w v : ℕ → ℕ) (n c : ℕ) where
     -- the number at c moves up
@@ -44,42 +55,34 @@ module _ (lt : ℕ → ℕ → Bool) (ranks : IsStrictWeakOrder lt) where
 
     -- the number at c moves down to s
     pub sink_more : (s : ℕ) → High lt w n c → First lt w n c s → lt (w s) (w c) ≡ true → Swapped w v c s → High lt v n s
-    sink_more s high fst before (vc, vs, rest) = record {
-      others = λ i low in' qs.
-          let q : ℕ = (i - 1) / 2 in
-          let qlti : q < i = omega arith in
-          ⊎_elim
-          (λ is. moved lt w v i q c s (ap v is ∙ vs) (ap v (subst (λ x. (x - 1) / 2 ≡ c) (sym is) fst.place) ∙ vc) (ranks.one_way (w s) (w c) before))
-          (λ is. ⊎_elim
-          (λ qc. moved lt w v i q i s (rest i (λ e. omega arith) is) (ap v qc ∙ vc) (fst.first i low in' qc))
-          (λ qc. ⊎_elim
-          (λ ic. moved lt w v i q s q (ap v ic ∙ vc) (rest q qc qs)
-          (subst (λ x. lt (w s) (w ((x - 1) / 2)) ≡ false) (sym ic) (high.across s fst.lower fst.inside fst.place (omega arith))))
-          (λ ic. moved lt w v i q i q (rest i ic is) (rest q qc qs) (high.others i low in' qc))
-          (cases_eq i c))
-          (cases_eq q c))
-          (cases_eq i s);
-      across = λ i low in' qs pos.
-          let place : (s - 1) / 2 ≡ c = fst.place in
-          let clts : c < s = omega arith in
-          let slti : s < i = omega arith in
-          moved lt w v i ((s - 1) / 2) i s (rest i (λ e. omega arith) (λ e. omega arith)) (ap v place ∙ vc)
-          (subst (λ x. lt (w i) (w x) ≡ false) qs (high.others i low in' (λ e. omega arith)));
-    }
-
-  pub rise_done : (w : ℕ → ℕ) (n c : ℕ) → Loose lt w n c → (0 < c → lt (w c) (w ((c - 1) / 2)) ≡ false) → High lt w n c
-  rise_done w n c loose h = record {
-    others = λ i low in' qc. ⊎_elim
-        (λ ic. subst (λ x. lt (w x) (w ((x - 1) / 2)) ≡ false) (sym ic) (h (omega arith)))
-        (λ ic. loose.others i low in' ic qc)
-        (cases_eq i c);
-    across = loose.across;
-  }
+    sink_more s high fst before (vc, vs, rest) =
+        let place : (s - 1) / 2 ≡ c = fst.place in
+        let lower : 0 < s = fst.lower in
+        let clts : c < s = omega arith in
+        record {
+          loose = record {
+            others = λ i low in' is qs.
+                let q : ℕ = (i - 1) / 2 in
+                ⊎_elim
+                (λ qc. moved lt w v i q i s (rest i (λ e. omega arith) is) (ap v qc ∙ vc) (fst.first i low in' qc))
+                (λ qc. ⊎_elim
+                (λ ic. moved lt w v i q s q (ap v ic ∙ vc) (rest q qc qs)
+                (subst (λ x. lt (w s) (w ((x - 1) / 2)) ≡ false) (sym ic) (high.loose.across s lower fst.inside place (omega arith))))
+                (λ ic. moved lt w v i q i q (rest i ic is) (rest q qc qs) (high_others w n c high i low in' qc))
+                (cases_eq i c))
+                (cases_eq q c);
+            across = λ i low in' qs pos.
+                let slti : s < i = omega arith in
+                moved lt w v i ((s - 1) / 2) i s (rest i (λ e. omega arith) (λ e. omega arith)) (ap v place ∙ vc)
+                (subst (λ x. lt (w i) (w x) ≡ false) qs (high_others w n c high i low in' (λ e. omega arith)));
+          };
+          above = λ pos in'. moved lt w v s ((s - 1) / 2) c s vs (ap v place ∙ vc) (ranks.one_way (w s) (w c) before);
+        }
 
   pub sink_done : (w : ℕ → ℕ) (n c : ℕ) → High lt w n c → ((i : ℕ) → 0 < i → i < n → (i - 1) / 2 ≡ c → lt (w i) (w c) ≡ false) → Heaped lt w n
   sink_done w n c high h i low in' = ⊎_elim
       (λ qc. subst (λ x. lt (w i) (w x) ≡ false) (sym qc) (h i low in' qc))
-      (λ qc. high.others i low in' qc)
+      (λ qc. high_others w n c high i low in' qc)
       (cases_eq ((i - 1) / 2) c)
 
   below : (w : ℕ → ℕ) (n : ℕ) → Heaped lt w n → (f i : ℕ) → i ≤ f → i < n → lt (w i) (w 0) ≡ false
@@ -96,38 +99,30 @@ module _ (lt : ℕ → ℕ → Bool) (ranks : IsStrictWeakOrder lt) where
 
   -- which of the places below c comes first
   module _ (w : ℕ → ℕ) (n c : ℕ) where
-    pub only_left : 2 * c + 1 < n → n ≤ 2 * c + 1 + 1 → First lt w n c (2 * c + 1)
-    only_left l m = record {
-      lower = omega arith;
-      inside = l;
-      place = omega arith;
-      first = λ i low in' e. let s : i ≡ 2 * c + 1 = omega arith in subst (λ x. lt (w x) (w (2 * c + 1)) ≡ false) (sym s) (itself (w (2 * c + 1)));
-    }
-
     either_place : (i : ℕ) → 0 < i → (i - 1) / 2 ≡ c → (i ≡ 2 * c + 1) ⊎ (i ≡ 2 * c + 1 + 1)
     either_place i low e = ⊎_elim (λ s. inl s) (λ s. inr (omega arith)) (cases_eq i (2 * c + 1))
 
-    pub left_first : 2 * c + 1 + 1 < n → lt (w (2 * c + 1 + 1)) (w (2 * c + 1)) ≡ false → First lt w n c (2 * c + 1)
+    pub left_first : 2 * c + 1 + 1 < n → false ≡ lt (w (2 * c + 1 + 1)) (w (2 * c + 1)) → First lt w n c (2 * c + 1)
     left_first l h = record {
       lower = omega arith;
       inside = omega arith;
       place = omega arith;
       first = λ i low in' e. ⊎_elim
           (λ s. subst (λ x. lt (w x) (w (2 * c + 1)) ≡ false) (sym s) (itself (w (2 * c + 1))))
-          (λ s. subst (λ x. lt (w x) (w (2 * c + 1)) ≡ false) (sym s) h)
+          (λ s. subst (λ x. lt (w x) (w (2 * c + 1)) ≡ false) (sym s) (sym h))
           (either_place i low e);
     }
 
-    pub right_first : 2 * c + 1 + 1 < n → lt (w (2 * c + 1 + 1)) (w (2 * c + 1)) ≡ true → First lt w n c (2 * c + 1 + 1)
+    pub right_first : 2 * c + 1 + 1 < n → true ≡ lt (w (2 * c + 1 + 1)) (w (2 * c + 1)) → First lt w n c (2 * c + 1 + 1)
     right_first l h = record {
       lower = omega arith;
       inside = l;
       place = omega arith;
       first = λ i low in' e. ⊎_elim
-          (λ s. subst (λ x. lt (w x) (w (2 * c + 1 + 1)) ≡ false) (sym s) (ranks.one_way (w (2 * c + 1 + 1)) (w (2 * c + 1)) h))
+          (λ s. subst (λ x. lt (w x) (w (2 * c + 1 + 1)) ≡ false) (sym s) (ranks.one_way (w (2 * c + 1 + 1)) (w (2 * c + 1)) (sym h)))
           (λ s. subst (λ x. lt (w x) (w (2 * c + 1 + 1)) ≡ false) (sym s) (itself (w (2 * c + 1 + 1))))
           (either_place i low e);
     }
 
-    pub none_before : (s : ℕ) → First lt w n c s → lt (w s) (w c) ≡ false → (i : ℕ) → 0 < i → i < n → (i - 1) / 2 ≡ c → lt (w i) (w c) ≡ false
-    none_before s fst h i low in' e = ranks.chain (w i) (w s) (w c) (fst.first i low in' e) h
+    pub none_before : (s : ℕ) → First lt w n c s → false ≡ lt (w s) (w c) → (i : ℕ) → 0 < i → i < n → (i - 1) / 2 ≡ c → lt (w i) (w c) ≡ false
+    none_before s fst h i low in' e = ranks.chain (w i) (w s) (w c) (fst.first i low in' e) (sym h)

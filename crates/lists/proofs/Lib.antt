@@ -1,6 +1,5 @@
 pub mod Nones
 pub mod Scanning
-pub mod RowTables
 pub mod Heaping
 pub mod Exchanging
 pub mod Ranking

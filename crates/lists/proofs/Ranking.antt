@@ -2,20 +2,19 @@
 use Rattle.std.proofs.Common.{◌≡◌, ℕ, ◌≤◌, Bool, true, false, cond, ltb, Some, None, Option, sym, refl, subst, ⊎_elim, arith}
 use Rattle.std.specs.Cmp.{IsStrictWeakOrder}
 use Rattle.std.proofs.lemmas.Bool.{both_ways, cases_Bool, ltb-true, ltb-false, le-ltb}
+use Rattle.lists.specs.Sooner.{KeyOrder}
 use Rattle.lists.specs.Heaps.{ahead, earlier}
 
-module _ {K : Type 0} (sooner : K → K → Bool) (irreflexive : (x : K) → sooner x x ≡ false)
-    (transitive : (x y z : K) → sooner x y ≡ true → sooner y z ≡ true → sooner x z ≡ true)
-    (ties : (x y : K) → sooner x y ≡ false → sooner y x ≡ false → x ≡ y) where
+module _ {K : Type 0} {sooner : K → K → Bool} (laws : KeyOrder sooner) where
   asymmetric : (x y : K) → sooner x y ≡ true → sooner y x ≡ false
-  asymmetric x y p = ⊎_elim (λ e. absurd (both_ways (sooner x x) (irreflexive x) (transitive x y x p e))) (λ e. e) (cases_Bool (sooner y x))
+  asymmetric x y p = ⊎_elim (λ e. absurd (both_ways (sooner x x) (laws.irreflexive x) (laws.transitive x y x p e))) (λ e. e) (cases_Bool (sooner y x))
 
   -- y is not after x, and z not after y
   not_after : (x y z : K) → sooner x y ≡ false → sooner y z ≡ false → sooner x z ≡ false
   not_after x y z p q = ⊎_elim
       (λ e. ⊎_elim
-      (λ f. absurd (both_ways (sooner y z) q (transitive y x z f e)))
-      (λ f. absurd (both_ways (sooner y z) q (subst (λ k. sooner k z ≡ true) (ties x y p f) e)))
+      (λ f. absurd (both_ways (sooner y z) q (laws.transitive y x z f e)))
+      (λ f. absurd (both_ways (sooner y z) q (subst (λ k. sooner k z ≡ true) (laws.ties x y p f) e)))
       (cases_Bool (sooner y x)))
       (λ e. e)
       (cases_Bool (sooner x z))
@@ -53,7 +52,7 @@ module _ {K : Type 0} (sooner : K → K → Bool) (irreflexive : (x : K) → soo
       let xz = not_after x y z xy yz in
       says_no (sooner x z) (sooner z x) t xz
       (λ zx.
-      let e : x ≡ z = ties x z xz zx in
+      let e : x ≡ z = laws.ties x z xz zx in
       let yx : sooner y x ≡ false = subst (λ k. sooner y k ≡ false) (sym e) yz in
       let zy : sooner z y ≡ false = subst (λ k. sooner k y ≡ false) e xy in
       h (no_last (sooner x y) (sooner y x) r yx p) (no_last (sooner y z) (sooner z y) s zy q))
@@ -81,4 +80,4 @@ module _ {K : Type 0} (sooner : K → K → Bool) (irreflexive : (x : K) → soo
   pub number_not_lower : (table : ℕ → Option K) (m n : ℕ) (k : K) → table m ≡ Some k → table n ≡ Some k → earlier sooner table m n ≡ false → n ≤ m
   number_not_lower table m n k e f h =
       let both : ahead sooner (Some k) (Some k) (ltb m n) ≡ false = subst (λ x. ahead sooner x (Some k) (ltb m n) ≡ false) e (subst (λ y. ahead sooner (table m) y (ltb m n) ≡ false) f h) in
-      ltb-false m n (no_last (sooner k k) (sooner k k) (ltb m n) (irreflexive k) both)
+      ltb-false m n (no_last (sooner k k) (sooner k k) (ltb m n) (laws.irreflexive k) both)

@@ -4,7 +4,7 @@ use Rattle.std.proofs.Common.{arith}
 use Rattle.std.proofs.lemmas.Bool.Decides.{nat_tests}
 use Rattle.lists.specs.declared.keys.DistanceKey.{DistanceKey}
 use Rattle.lists.specs.declared.keys.SearchKey.{SearchKey}
-use Rattle.lists.specs.Sooner.{sum_sooner, distance_sooner}
+use Rattle.lists.specs.Sooner.{KeyOrder, sum_sooner, distance_sooner}
 
 -- one part compared, and then the rest
 then : (a b c : ℕ) (r s t : Bool) → (r ≡ true → s ≡ true → t ≡ true) → cond (nat_lt a b) true (cond (nat_lt b a) false r) ≡ true → cond (nat_lt b c) true (cond (nat_lt c b) false s) ≡ true → cond (nat_lt a c) true (cond (nat_lt c a) false t) ≡ true
@@ -45,3 +45,9 @@ distance_ties x y p q =
     let one = tied x.distance y.distance _ _ p q in
     let two = tied_last x.fact y.fact one.1 one.2 in
     λ i. record { distance = one.0 i; fact = two i }
+
+pub sum_laws : KeyOrder sum_sooner
+sum_laws = record { irreflexive = sum_irreflexive; transitive = sum_transitive; ties = sum_ties }
+
+pub distance_laws : KeyOrder distance_sooner
+distance_laws = record { irreflexive = distance_irreflexive; transitive = distance_transitive; ties = distance_ties }

@@ -1,7 +1,13 @@
--- The orders of the two sorts of key. Assumes nothing.
-use Rattle.std.specs.Prelude.{Bool, true, false, cond, nat_lt}
+-- The laws of an order of keys, and the orders of the two sorts of key. Assumes nothing.
+use Rattle.std.specs.Prelude.{◌≡◌, Bool, true, false, cond, nat_lt}
 use Rattle.lists.specs.declared.keys.SearchKey.{SearchKey}
 use Rattle.lists.specs.declared.keys.DistanceKey.{DistanceKey}
+
+-- any two keys compare, only equal keys tie, and the order is transitive
+pub record KeyOrder {K : Type 0} (sooner : K → K → Bool) : Type 0 where
+  pub irreflexive : (x : K) → sooner x x ≡ false
+  pub transitive : (x y z : K) → sooner x y ≡ true → sooner y z ≡ true → sooner x z ≡ true
+  pub ties : (x y : K) → sooner x y ≡ false → sooner y x ≡ false → x ≡ y
 
 -- by the sum, then the estimate, then the entry
 abbrev pub sum_sooner : SearchKey → SearchKey → Bool

@@ -3,8 +3,9 @@ use Rattle.std.specs.Prelude.{◌≡◌, ℕ, ◌<◌, List, is_some, None, Opti
 use Rattle.lists.specs.Capacity.{capacity_limit}
 
 -- at each place there is a number that a heap has room for, and the other list has its place
-abbrev pub Listed : List ℕ → List ℕ → Type 0
-Listed order places = (i : ℕ) → i < capacity_limit → (slice_index order i < capacity_limit) × (slice_index places (slice_index order i) ≡ i)
+pub record Listed (order places : List ℕ) : Type 0 where
+  pub inside : (i : ℕ) → i < capacity_limit → slice_index order i < capacity_limit
+  pub back : (i : ℕ) → i < capacity_limit → slice_index places (slice_index order i) ≡ i
 
 -- the numbers that hold a key are those that stand below count
 abbrev pub Fronted : {K : Type 0} → List (Option K) → List ℕ → ℕ → Type 0

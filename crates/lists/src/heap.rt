@@ -1,5 +1,5 @@
-// An indexed binary heap, over any sort of key. Its order is a fact about the sort of key, which the struct cannot state, so its
-// methods ask for it and keep it: `crate::heaps` has the waiting list of each sort of key.
+// The arrays of an indexed binary heap, over any sort of key. While a number moves they are not in order, so the order is a fact of
+// the waiting list in `crate::heaps`, which holds them.
 ghost use Rattle.std.specs.Prelude.{◌≡◌, ◌≤◌, length};
 ghost use Rattle.lists.specs.Capacity.{capacity_limit};
 ghost use Rattle.lists.specs.Tidy.{Listed, Fronted};
@@ -9,6 +9,7 @@ use crate::waiting::CAPACITY;
 mod methods;
 mod moves;
 
+// Fixed arrays and a count: no list allocates, and its memory is part of a stated budget.
 #[derive(Drop)]
 pub(crate) struct Heap<K> {
     // The key of each number.

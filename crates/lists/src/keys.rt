@@ -1,25 +1,22 @@
 // What a key is, and the two sorts of key.
-ghost use Rattle.std.specs.Prelude.{◌≡◌, Bool, true, false};
-ghost use Rattle.lists.specs.Sooner.{sum_sooner, distance_sooner};
-ghost use Rattle.lists.specs.Orders.{sum_irreflexive, sum_transitive, sum_ties, distance_irreflexive, distance_transitive, distance_ties};
+ghost use Rattle.std.specs.Prelude.{◌≡◌, Bool};
+ghost use Rattle.lists.specs.Sooner.{KeyOrder, sum_sooner, distance_sooner};
+ghost use Rattle.lists.specs.Orders.{sum_laws, distance_laws};
 
 // Any two keys compare, only equal keys tie, and the order is transitive.
 pub trait Key: Copy {
     // Whether the first key comes before the second.
     ghost sooner: { Self → Self → Bool };
 
+    // It has no body here, since that would have to hold for any `sooner`.
     fn precedes(&self, other: &Self) -> bool
         ensures { result ≡ sooner self.now other.now };
 
-    ghost irreflexive: { (x : Self) → sooner x x ≡ false };
-
-    ghost transitive: { (x y z : Self) → sooner x y ≡ true → sooner y z ≡ true → sooner x z ≡ true };
-
-    ghost ties: { (x y : Self) → sooner x y ≡ false → sooner y x ≡ false → x ≡ y };
+    ghost laws: { KeyOrder sooner };
 }
 
 // Ordered by the sum, then the estimate, then the entry.
-#[derive(Clone, Copy, PartialEq, PartialOrd)]
+#[derive(Clone, Copy, Debug, PartialEq, Eq, PartialOrd)]
 pub struct SearchKey {
     pub sum: u32,
     pub estimate: u32,
@@ -29,11 +26,7 @@ pub struct SearchKey {
 impl Key for SearchKey {
     ghost sooner = { sum_sooner };
 
-    ghost irreflexive = { sum_irreflexive };
-
-    ghost transitive = { sum_transitive };
-
-    ghost ties = { sum_ties };
+    ghost laws = { sum_laws };
 
     fn precedes(&self, other: &SearchKey) -> bool {
         self < other
@@ -41,7 +34,7 @@ impl Key for SearchKey {
 }
 
 // Ordered by the distance, then the fact.
-#[derive(Clone, Copy, PartialEq, PartialOrd)]
+#[derive(Clone, Copy, Debug, PartialEq, Eq, PartialOrd)]
 pub struct DistanceKey {
     pub distance: u32,
     pub fact: u16,
@@ -50,11 +43,7 @@ pub struct DistanceKey {
 impl Key for DistanceKey {
     ghost sooner = { distance_sooner };
 
-    ghost irreflexive = { distance_irreflexive };
-
-    ghost transitive = { distance_transitive };
-
-    ghost ties = { distance_ties };
+    ghost laws = { distance_laws };
 
     fn precedes(&self, other: &DistanceKey) -> bool {
         self < other

@@ -6,5 +6,4 @@ pub mod heaps;
 pub mod keys;
 pub mod row;
 pub mod runs;
-mod slots;
 pub mod waiting;

@@ -6,6 +6,7 @@ mod methods;
 
 use crate::waiting::CAPACITY;
 
+// A fixed array, as no list allocates.
 #[derive(Drop)]
 pub struct Row<K> {
     keys: [Option<K>; CAPACITY],

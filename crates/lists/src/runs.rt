@@ -3,10 +3,10 @@ ghost use Rattle.std.specs.Prelude.{◌≡◌, min, length, take, drop};
 ghost use Rattle.lists.specs.Runs.{Answers, Runs, Decided};
 
 use crate::keys::Key;
-use crate::waiting::WaitingList;
+use crate::waiting::{BeyondCapacity, WaitingList};
 
 // A call of a waiting list: `clear`, `put` or `take`.
-#[derive(Clone, Copy)]
+#[derive(Clone, Copy, Debug, PartialEq, Eq)]
 pub enum Request<K> {
     Empty,
     Put { number: usize, key: K },
@@ -14,15 +14,11 @@ pub enum Request<K> {
 }
 
 // What a call answers.
-#[derive(Clone, Copy)]
+#[derive(Clone, Copy, Debug, PartialEq, Eq)]
 pub enum Answer {
     Emptied,
-    Placed,
-    // The number is not below the capacity.
-    Refused,
-    Taken(usize),
-    // No number holds a key.
-    Nothing,
+    Placed(Result<(), BeyondCapacity>),
+    Taken(Option<usize>),
 }
 
 // Makes the call.
@@ -35,14 +31,8 @@ pub fn serve<K: Key, L: WaitingList<K>>(list: &mut L, request: Request<K>) -> An
             list.clear();
             Answer::Emptied
         }
-        Request::Put { number, key } => match list.put(number, key) {
-            Ok(()) => Answer::Placed,
-            Err(_) => Answer::Refused,
-        },
-        Request::Take => match list.take() {
-            Some(number) => Answer::Taken(number),
-            None => Answer::Nothing,
-        },
+        Request::Put { number, key } => Answer::Placed(list.put(number, key)),
+        Request::Take => Answer::Taken(list.take()),
     }
 }
 
@@ -59,8 +49,8 @@ pub fn serve_all<K: Key, L: WaitingList<K>>(
     ensures decided { Decided K.Key.sooner (L.WaitingList.capacity list.old) (L.WaitingList.holds list.old) (take result requests.now) (take result answers.new) (L.WaitingList.holds list.new) }
 {
     let count = requests.len().min(answers.len());
-    for at in 0..count {
-        answers[at] = serve(list, requests[at]);
+    for (at, request) in requests[..count].iter().enumerate() {
+        answers[at] = serve(list, *request);
     }
     count
 }

@@ -9,7 +9,7 @@ use crate::keys::Key;
 pub const CAPACITY: usize = 1024;
 
 // The number is not below the list's capacity.
-#[derive(Clone, Copy)]
+#[derive(Clone, Copy, Debug, PartialEq, Eq)]
 pub struct BeyondCapacity;
 
 // A table from numbers to keys, from which the number with the least key is taken.

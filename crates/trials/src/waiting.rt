@@ -1,9 +1,9 @@
 // Both waiting lists side by side, on random rows of calls.
-use lists::heaps::{DistanceHeap, SearchHeap};
+use lists::heaps::OrderedHeap;
 use lists::keys::{DistanceKey, Key, SearchKey};
 use lists::row::Row;
 use lists::runs::{Answer, Request, serve};
-use lists::waiting::WaitingList;
+use lists::waiting::{BeyondCapacity, WaitingList};
 
 // The next number of a linear congruential row.
 fn next(state: u64) -> u64 {
@@ -48,14 +48,14 @@ where
     }
 }
 
-// An answer as a number, to be compared and added up.
+// An answer as a number, to be added up.
 fn code(answer: Answer) -> u64 {
     match answer {
         Answer::Emptied => 1,
-        Answer::Placed => 2,
-        Answer::Refused => 3,
-        Answer::Nothing => 4,
-        Answer::Taken(number) => (number as u64).saturating_add(5),
+        Answer::Placed(Ok(())) => 2,
+        Answer::Placed(Err(BeyondCapacity)) => 3,
+        Answer::Taken(None) => 4,
+        Answer::Taken(Some(number)) => (number as u64).saturating_add(5),
     }
 }
 
@@ -64,10 +64,10 @@ fn same_answer<K: Key, A: WaitingList<K>, B: WaitingList<K>>(
     one: &mut A,
     other: &mut B,
     request: Request<K>,
-) -> Option<u64> {
-    let first = code(serve(one, request));
-    let second = code(serve(other, request));
-    if first == second { Some(first) } else { None }
+) -> Option<Answer> {
+    let first = serve(one, request);
+    let second = serve(other, request);
+    (first == second).then_some(first)
 }
 
 const CALLS: u32 = 20000;
@@ -80,10 +80,10 @@ struct Tally {
 }
 
 impl Tally {
-    fn note(&mut self, answer: Option<u64>) {
+    fn note(&mut self, answer: Option<Answer>) {
         if let Some(answer) = answer {
             self.equal = self.equal.saturating_add(1);
-            self.sum = self.sum.wrapping_mul(31).wrapping_add(answer);
+            self.sum = self.sum.wrapping_mul(31).wrapping_add(code(answer));
         }
     }
 
@@ -95,26 +95,30 @@ impl Tally {
     }
 }
 
-pub(crate) fn try_search_lists(rt: &HostRuntime) -> anyhow::Result<()> {
-    let mut heap = SearchHeap::new();
+// Makes random calls on a heap and a row, where `key` makes a key of a random number.
+fn try_lists<K: Key, F: Fn(u64) -> K>(
+    rt: &HostRuntime,
+    name: &str,
+    seed: u64,
+    key: F,
+) -> anyhow::Result<()>
+    requires { F.IsAlwaysCallable key }
+{
+    let mut heap = OrderedHeap::new();
     let mut row = Row::new();
     let mut tally = Tally { equal: 0, sum: 0 };
-    let mut state = 1;
+    let mut state = seed;
     for _ in 0..CALLS {
         state = next(state);
-        tally.note(same_answer(&mut heap, &mut row, request(state, search_key(state))));
+        tally.note(same_answer(&mut heap, &mut row, request(state, key(state))));
     }
-    tally.show(rt, "heap and row by search keys")
+    tally.show(rt, name)
+}
+
+pub(crate) fn try_search_lists(rt: &HostRuntime) -> anyhow::Result<()> {
+    try_lists(rt, "heap and row by search keys", 1, search_key)
 }
 
 pub(crate) fn try_distance_lists(rt: &HostRuntime) -> anyhow::Result<()> {
-    let mut heap = DistanceHeap::new();
-    let mut row = Row::new();
-    let mut tally = Tally { equal: 0, sum: 0 };
-    let mut state = 2;
-    for _ in 0..CALLS {
-        state = next(state);
-        tally.note(same_answer(&mut heap, &mut row, request(state, distance_key(state))));
-    }
-    tally.show(rt, "heap and row by distance keys")
+    try_lists(rt, "heap and row by distance keys", 2, distance_key)
 }

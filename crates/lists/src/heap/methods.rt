@@ -1,6 +1,5 @@
 // What a heap does.
-ghost use Rattle.std.specs.Prelude.{◌≡◌, ℕ, ◌<◌, length, is_ok, if◌then◌else◌, Some, None, nat_eq, nat_lt, slice_index, slice_set};
-ghost use Rattle.std.specs.Map.{update};
+ghost use Rattle.std.specs.Prelude.{◌≡◌, ℕ, ◌<◌, length, Some, None, slice_index, slice_set};
 ghost use Rattle.lists.specs.Capacity.{capacity_limit};
 ghost use Rattle.lists.specs.Heaps.{Loose, High};
 ghost use Rattle.lists.specs.Least.{Chosen, Without};
@@ -8,25 +7,21 @@ ghost use Rattle.lists.specs.Tables.{heap_holds, heap_order, heap_earlier, InOrd
 
 use super::Heap;
 use crate::keys::Key;
-use crate::slots::forget;
-use crate::waiting::{BeyondCapacity, CAPACITY};
+use crate::waiting::CAPACITY;
+use std::array;
 
 // Each number at its own place.
 fn in_order() -> [u16; CAPACITY]
     ensures length { length result ≡ capacity_limit }
     ensures places { (i : ℕ) → i < capacity_limit → slice_index result i ≡ i }
 {
-    let mut numbers = [0; CAPACITY];
-    for (number, slot) in numbers.iter_mut().enumerate() {
-        *slot = number as u16;
-    }
-    numbers
+    array::from_fn(|number| number as u16)
 }
 
 impl<K: Key> Heap<K> {
     // A heap in which no number holds a key.
     pub(crate) fn new() -> Self
-        ensures order { InOrder K.Key.sooner result }
+        ensures count { result.count ≡ 0 }
         ensures empty { (n : ℕ) → heap_holds result n ≡ None }
     {
         let order = in_order();
@@ -39,7 +34,7 @@ impl<K: Key> Heap<K> {
     }
 
     // Gives the number the key, and says at which place the number now stands, be it the right one or not.
-    fn enter(&mut self, number: usize, key: K) -> usize
+    pub(crate) fn enter(&mut self, number: usize, key: K) -> usize
         requires within { number < capacity_limit }
         requires order { InOrder K.Key.sooner self.old }
         ensures keys { self.new.keys ≡ slice_set self.old.keys number (Some key) }
@@ -59,7 +54,7 @@ impl<K: Key> Heap<K> {
     }
 
     // Takes the number at the top out, and puts the last one there, be it the right place or not.
-    fn leave(&mut self) -> Option<usize>
+    pub(crate) fn leave(&mut self) -> Option<usize>
         requires { InOrder K.Key.sooner self.old }
         ensures chosen { Chosen K.Key.sooner (heap_holds self.old) result }
         ensures table { Without (heap_holds self.old) (heap_holds self.new) result }
@@ -78,38 +73,10 @@ impl<K: Key> Heap<K> {
 
     // No number holds a key.
     pub(crate) fn clear(&mut self)
-        ensures order { InOrder K.Key.sooner self.new }
+        ensures count { self.new.count ≡ 0 }
         ensures empty { (n : ℕ) → heap_holds self.new n ≡ None }
     {
-        forget(&mut self.keys);
+        self.keys.fill(None);
         self.count = 0;
-    }
-
-    // The number holds the key, in place of any that it held; or it is beyond the capacity, and nothing changes.
-    pub(crate) fn put(&mut self, number: usize, key: K) -> Result<(), BeyondCapacity>
-        requires { InOrder K.Key.sooner self.old }
-        ensures order { InOrder K.Key.sooner self.new }
-        ensures test { is_ok result ≡ nat_lt number capacity_limit }
-        ensures table { (n : ℕ) → heap_holds self.new n ≡ (if is_ok result then update nat_eq (heap_holds self.old) number (Some key) n else heap_holds self.old n) }
-    {
-        if number >= CAPACITY {
-            return Err(BeyondCapacity);
-        }
-        let start = self.enter(number, key);
-        let at = self.rise(start);
-        self.sink(at);
-        Ok(())
-    }
-
-    // The number with the least key, the lowest such number, which then holds none.
-    pub(crate) fn take(&mut self) -> Option<usize>
-        requires { InOrder K.Key.sooner self.old }
-        ensures order { InOrder K.Key.sooner self.new }
-        ensures chosen { Chosen K.Key.sooner (heap_holds self.old) result }
-        ensures table { Without (heap_holds self.old) (heap_holds self.new) result }
-    {
-        let number = self.leave();
-        self.sink(0);
-        number
     }
 }

@@ -1,4 +1,4 @@
-// How numbers move within the heap.
+// How numbers move within the heap. A place is a plain number: a struct that knows its bound would be opened in each sum and clause.
 ghost use Rattle.std.specs.Prelude.{◌≡◌, ◌<◌, nat_lt};
 ghost use Rattle.std.proofs.lemmas.List.Edits.{Swapped};
 ghost use Rattle.lists.specs.Capacity.{capacity_limit};
@@ -49,6 +49,7 @@ impl<K: Key> Heap<K> {
         ensures count { self.new.count ≡ self.old.count }
         ensures order { Swapped (heap_order self.old) (heap_order self.new) i j }
     {
+        // Written one by one: with `swap` on both arrays a fill and drain took a fifth longer.
         let a = self.order[i];
         let b = self.order[j];
         self.order[i] = b;
@@ -73,7 +74,7 @@ impl<K: Key> Heap<K> {
     }
 
     // Moves the number at a place up for as long as it comes before the one above, and says where it then stands.
-    pub(super) fn rise(&mut self, start: usize) -> usize
+    pub(crate) fn rise(&mut self, start: usize) -> usize
         requires within { start < self.old.count }
         requires loose { Loose (heap_earlier K.Key.sooner self.old) (heap_order self.old) self.old.count start }
         ensures keys { self.new.keys ≡ self.old.keys }
@@ -121,7 +122,7 @@ impl<K: Key> Heap<K> {
     }
 
     // Moves the number at a place down for as long as one below comes before it.
-    pub(super) fn sink(&mut self, start: usize)
+    pub(crate) fn sink(&mut self, start: usize)
         requires within { start < capacity_limit }
         requires high { High (heap_earlier K.Key.sooner self.old) (heap_order self.old) self.old.count start }
         ensures keys { self.new.keys ≡ self.old.keys }

@@ -7,7 +7,6 @@ ghost use Rattle.lists.specs.Scan.{better_of};
 
 use super::Row;
 use crate::keys::Key;
-use crate::slots::forget;
 use crate::waiting::{BeyondCapacity, CAPACITY, WaitingList};
 
 impl<K: Key> Row<K> {
@@ -29,7 +28,7 @@ impl<K: Key> WaitingList<K> for Row<K> {
     ghost laws = { row_laws };
 
     fn clear(&mut self) {
-        forget(&mut self.keys);
+        self.keys.fill(None);
     }
 
     fn put(&mut self, number: usize, key: K) -> Result<(), BeyondCapacity> {
@@ -55,27 +54,15 @@ fn first_least<K: Key>(keys: &[Option<K>]) -> Option<usize>
     for (number, key) in keys.iter().enumerate() {
         best = better(best, number, *key);
     }
-    match best {
-        Some((number, _)) => Some(number),
-        None => None,
-    }
+    best.map(|(number, _)| number)
 }
 
 // The best so far, or the number if its key comes before.
 fn better<K: Key>(best: Option<(usize, K)>, number: usize, key: Option<K>) -> Option<(usize, K)>
     ensures { result ≡ better_of K.Key.sooner best number key }
 {
-    let Some(key) = key else {
-        return best;
-    };
-    match best {
-        Some((at, low)) => {
-            if key.precedes(&low) {
-                Some((number, key))
-            } else {
-                Some((at, low))
-            }
-        }
-        None => Some((number, key)),
+    match key {
+        Some(key) if best.is_none_or(|(_, low)| key.precedes(&low)) => Some((number, key)),
+        _ => best,
     }
 }

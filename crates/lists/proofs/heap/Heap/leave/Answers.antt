@@ -1,26 +1,13 @@
-use Rattle.std.proofs.Common.{◌≡◌, ◌-◌, get_or, set, None, sym, refl, ap, ◌∙◌, arith, lit<}
-use Rattle.std.proofs.lemmas.List.{length-set, get_or-set_other}
+use Rattle.std.proofs.Common.{◌≡◌, ◌-◌, get_or, set, None, sym, ap, ◌∙◌, arith, lit<}
+use Rattle.std.proofs.lemmas.List.{get_or-set_other}
 use Rattle.lists.specs.Heaps.{earlier}
 use Rattle.lists.specs.Tables.{heap_holds, heap_order}
-use Rattle.lists.proofs.Ranking.{earlier_ranks}
-use Rattle.lists.proofs.Heaping.{rise_done}
-use Rattle.lists.proofs.RowTables.{get_d_update}
-use Rattle.lists.proofs.Changing.{left_fronted, loose_at, high_top, none_held, top_least}
+use Rattle.lists.proofs.Heaping.{high_top}
+use Rattle.lists.proofs.Changing.{set_is_update, left_fronted, loose_at, top_least}
 use Rattle.lists.proofs.heap.Heap.leave.Goals as goal
 
-pub returns-then-self-eq0 : goal.returns-then-self-eq0
-returns-then-self-eq0 g c =
-    let laws = g.met.K.Key in
-    let s = c.args.self.now in
-    record {
-      chosen = none_held g.K.Key.sooner laws.irreflexive laws.transitive laws.ties
-          s.keys s.order s.places s.count s.full.0 s.listed s.placed s.fronted c.if-self-eq0.true;
-      table = λ n. refl;
-      high = high_top g.K.Key.sooner laws.irreflexive laws.transitive laws.ties (heap_holds s) (heap_order s) s.count c.requires;
-    }
-
-pub invariant_of-self : goal.invariant_of-self
-invariant_of-self g c =
+pub invariant_of-self-clause-fronted : goal.invariant_of-self-clause-fronted
+invariant_of-self-clause-fronted g c =
     let s = c.args.self.now in
     let h = c.exchange.new.self in
     let went = c.exchange.ensures in
@@ -28,52 +15,37 @@ invariant_of-self g c =
     let last = s.count - 1 in
     let counted = s.full.3 in
     let some = c.if-self-eq0.false in
-    let within = (s.listed 0 (omega arith)).0 in
     let same = went.count in
-    let at : get_or h.places number 0 ≡ last = sym (ap (λ x. get_or h.places x 0) went.order.1) ∙ (h.listed last (omega arith)).1 in
-    record {
-      full = (length-set h.keys number None ∙ h.full.0, h.full.1, h.full.2, omega arith);
-      listed = h.listed;
-      placed = h.placed;
-      fronted = left_fronted h.keys h.places number h.full.0 within h.order last h.placed at h.count (omega arith) h.fronted;
-    }
+    let at : get_or h.places number 0 ≡ last = sym (ap (λ x. get_or h.places x 0) went.order.1) ∙ h.listed.back last (omega arith) in
+    left_fronted h number (s.listed.inside 0 (omega arith)) last at (omega arith)
 
-pub returns : goal.returns
-returns g c =
-    let laws = g.met.K.Key in
-    let sooner = g.K.Key.sooner in
+pub returns-clause-chosen : goal.returns-clause-chosen
+returns-clause-chosen g c = let some = c.if-self-eq0.false in top_least c.args.self.now g.met.K.Key.laws (omega arith) c.requires
+
+pub returns-clause-table : goal.returns-clause-table
+returns-clause-table g c m =
+    let s = c.args.self.now in
+    let number = get_or s.order 0 0 in
+    let within = s.listed.inside 0 (lit< tt) in
+    let full = s.full.0 in
+    ap (λ ks. get_or (set ks number None) m None) c.exchange.ensures.keys ∙ set_is_update s.keys number None m (omega arith)
+
+pub returns-clause-high : goal.returns-clause-high
+returns-clause-high g c =
     let s = c.args.self.now in
     let h = c.exchange.new.self in
     let went = c.exchange.ensures in
     let number = get_or s.order 0 0 in
     let last = s.count - 1 in
     let counted = s.full.3 in
-    let full = s.full.0 in
     let some = c.if-self-eq0.false in
-    let within = (s.listed 0 (omega arith)).0 in
-    let loose = loose_at g.K.Key.sooner laws.irreflexive laws.transitive laws.ties
+    high_top (earlier g.K.Key.sooner (λ m. get_or (set h.keys number None) m None)) (heap_order h) last
+    (loose_at g.met.K.Key.laws
     (heap_holds s) (λ m. get_or (set h.keys number None) m None) (heap_order s) (heap_order h) s.count last 0 number
     (λ m ne. get_or-set_other h.keys number m None None ne ∙ ap (λ ks. get_or ks m None) went.keys)
     (λ i l ic. (
       omega arith,
       went.order.2 i ic (λ e. omega arith),
-      λ e. ic (sym (s.listed i (omega arith)).1 ∙ ap (λ x. get_or s.places x 0) e ∙ (s.listed 0 (omega arith)).1),
+      λ e. ic (sym (s.listed.back i (omega arith)) ∙ ap (λ x. get_or s.places x 0) e ∙ s.listed.back 0 (omega arith)),
     ))
-    c.requires in
-    record {
-      chosen = top_least g.K.Key.sooner laws.irreflexive laws.transitive laws.ties
-          s.keys s.order s.places s.count s.full.0 s.listed s.placed s.fronted (omega arith) s.full.3 c.requires;
-      table = λ m. ap (λ ks. get_or (set ks number None) m None) went.keys ∙ get_d_update s.keys number None m (omega arith);
-      high = rise_done (earlier g.K.Key.sooner (λ m. get_or (set h.keys number None) m None))
-          (earlier_ranks g.K.Key.sooner laws.irreflexive laws.transitive laws.ties (λ m. get_or (set h.keys number None) m None))
-          (heap_order h) last 0 loose (λ pos. absurd (omega arith));
-    }
-
-pub offset_bounds-self-number : goal.offset_bounds-self-number
-offset_bounds-self-number g c = let l = (c.args.self.now.listed 0 (lit< tt)).0 in omega arith
-
-pub listed : goal.listed
-listed g c = let l = (c.args.self.now.listed 0 (lit< tt)).0 in let full = c.exchange.new.self.full.0 in omega arith
-
-pub bounds-self-number : goal.bounds-self-number
-bounds-self-number g c = let l = (c.args.self.now.listed 0 (lit< tt)).0 in omega arith
+    c.requires)

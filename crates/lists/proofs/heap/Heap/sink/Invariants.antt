@@ -6,10 +6,12 @@ use Rattle.lists.proofs.heap.Heap.sink.Given as goal
 
 abbrev pub invariant-loop-child : goal.invariant-loop-child
 invariant-loop-child g l =
-    (l.at < capacity_limit)
-    × High (heap_earlier g.K.Key.sooner l.self) (heap_order l.self) l.self.count l.at
-    × (l.self.keys ≡ l.initial.self.keys)
-    × (l.self.count ≡ l.initial.self.count)
+    record {
+      within : l.at < capacity_limit;
+      high : High (heap_earlier g.K.Key.sooner l.self) (heap_order l.self) l.self.count l.at;
+      keys : l.self.keys ≡ l.initial.self.keys;
+      count : l.self.count ≡ l.initial.self.count;
+    }
 
 abbrev pub decreases-loop-child : goal.decreases-loop-child
 decreases-loop-child g l = capacity_limit - l.at

@@ -1,5 +1,5 @@
 use Rattle.std.proofs.Common.{◌≡◌, true, sym, mul-le-mul, arith}
-use Rattle.lists.proofs.Nones.{get_d_nones}
+use Rattle.lists.proofs.Nones.{read_nones}
 use Rattle.estimators.specs.Pairs.{apart}
 use Rattle.task.specs.Meaning.{meaning}
 use Rattle.task.proofs.Moving.{lawful}
@@ -16,7 +16,7 @@ distances-requires g c =
     record {
       fits = ((i, t.small e.first i), (j, t.small e.second j));
       room = mul-le-mul (t.small e.first i) (t.small e.second j);
-      blank = λ x. get_d_nones 256 x;
+      blank = λ x. read_nones 256 x;
     }
 
 pub invariant_of-self : goal.invariant_of-self
