@@ -11,7 +11,7 @@ use Rattle.site.specs.declared.refusal.Refusal.{Refusal}
 use Rattle.ranking.specs.Meaning.{relation}
 use Rattle.ranking.specs.Reading.{RankingRead}
 use Rattle.ranking.specs.Verdict.{Checked}
-use Rattle.ranking.specs.Judging.{Judgement, Offered, Unfit, broken, Judged, ranking_refused, ranking_fit, RankingJudged, Reliable}
+use Rattle.ranking.specs.Judging.{Judgement, Offered, broken, Judged, ranking_refused, ranking_fit, RankingJudged, Reliable}
 use Rattle.ranking.specs.declared.judge.Rejection.{Rejection}
 use Rattle.ranking.specs.declared.judge.Rejection.TheVariants as rejection
 use Rattle.ranking.specs.declared.order.Ranking.{Ranking}

@@ -1,7 +1,6 @@
 -- Which labels reply to a move, and which do not.
-use Rattle.std.proofs.Common.{◌≡◌, ℕ, ◌+◌, ◌<◌, ◌≤◌, Bool, true, false, ◌≢◌, Some, None, Decides, Option, sym, refl, ap, subst, arith}
+use Rattle.std.proofs.Common.{◌≡◌, ℕ, ◌+◌, ◌<◌, ◌≤◌, true, false, ◌≢◌, Some, None, Decides, Option, sym, refl, ap, subst, arith}
 use borrow.Author.Tests.{clash, both_ways}
-use Rattle.std.specs.Option.{MatchOption}
 use Rattle.task.specs.Task.{FactoredTask, move, price}
 use Rattle.ranking.specs.Ranking.{Ranking, Serves}
 use Rattle.ranking.specs.Finding.{Replied, Found, IsReply, ServesBeside}
@@ -46,8 +45,3 @@ module _ (t : FactoredTask) (r : Ranking) (w : Wanted) where
 
   pub beside_from : (p : ℕ × ℕ) → IsReply t r w p → ServesBeside t r w.factor w.label p.0
   beside_from p q j h n = subst (λ (l : ℕ). Serves t r j w.label l) q.1 (q.0.serves j h n)
-
-  -- what is found and verified
-  pub answered : (o : Option (ℕ × ℕ)) (b : Bool) (P : ℕ × ℕ → Type 0) → Found t r w o → MatchOption o (b ≡ false) P → ((p : ℕ × ℕ) → P p → Decides b (IsReply t r w p)) → Decides b (Replied t r w)
-  answered None b P none e verified = (λ e'. absurd (both_ways b e e'), λ q. absurd (none q))
-  answered (Some p) b P found k verified = let d = verified p k in (λ e. (d.0 e).0, λ _. d.1 found.0)

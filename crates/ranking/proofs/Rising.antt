@@ -1,8 +1,7 @@
 -- From what is answered of each two facts of a factor to what is answered of a rule.
-use Rattle.std.proofs.Common.{◌≡◌, ℕ, ◌<◌, ◌⊎◌, Ok, Err, Result, sym, subst, inl, inr}
+use Rattle.std.proofs.Common.{◌≡◌, ℕ, ◌<◌, ◌⊎◌, Ok, Err, Result, inl, inr}
 use Rattle.task.specs.Task.{FactoredTask}
 use Rattle.ranking.specs.Ranking.{Ranking}
-use Rattle.ranking.specs.Rules.{ReplyHolds}
 use Rattle.ranking.specs.First.{Then, Chains, Goals, Replies, Inside, FirstError, all_well, fails, ChainAt, GoalAt, ReplyAt}
 use Rattle.site.specs.declared.refusal.Refusal.{Refusal}
 

@@ -34,7 +34,6 @@ impl Check<'_> {
     pub(crate) fn has_reply(&self, wanted: Wanted) -> bool
         ensures { Decides result (Replied (meaning self.now.task.now) (relation self.now.ranking.now) wanted) }
     {
-        self.find_reply(wanted)
-            .is_some_and(|reply| self.is_reply(wanted, reply))
+        matches!(self.find_reply(wanted), Some(reply) if self.is_reply(wanted, reply))
     }
 }

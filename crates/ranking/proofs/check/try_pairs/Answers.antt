@@ -1,4 +1,4 @@
-use Rattle.std.proofs.Common.{◌<◌, Ok, arith}
+use Rattle.std.proofs.Common.{arith}
 use Rattle.std.proofs.lemmas.Result.{err_from_is_err_and}
 use Rattle.task.specs.Meaning.{meaning}
 use Rattle.ranking.specs.First.{all_well}

@@ -1,6 +1,5 @@
-use Rattle.std.proofs.Common.{◌≡◌, ◌<◌, sym, refl, arith, rules, below_more}
+use Rattle.std.proofs.Common.{◌<◌, sym, refl, arith, rules, below_more}
 use borrow.Author.Tests.{both_ways}
-use Rattle.ranking.specs.Ranking.{Serves}
 use Rattle.task.specs.Tables.{part}
 use Rattle.task.specs.Meaning.{meaning}
 use Rattle.ranking.specs.Meaning.{relation}

@@ -1,4 +1,4 @@
-use Rattle.std.proofs.Common.{Some, sym, refl, arith, rules, ◌∙◌}
+use Rattle.std.proofs.Common.{sym, arith, rules}
 use borrow.Author.Tests.{tests}
 use Rattle.task.specs.Meaning.{meaning}
 use Rattle.ranking.specs.Meaning.{relation}

@@ -1,4 +1,4 @@
-use Rattle.std.proofs.Common.{◌<◌, sym, ◌∙◌, rules, below_more}
+use Rattle.std.proofs.Common.{◌<◌, sym, rules, below_more}
 use borrow.Author.Tests.{both_ways}
 use Rattle.task.specs.Meaning.{meaning}
 use Rattle.ranking.specs.Meaning.{relation}
