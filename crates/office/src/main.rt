@@ -4,7 +4,7 @@
 
 use anyhow::anyhow;
 use explain::explanation::{Explanation, Line};
-use ranking::judge::{Judgement, judge, judge_site};
+use ranking::judge::{judge, judge_site};
 use site::input::split_input;
 use site::limits::FILE_BYTES;
 use std::io::Read;
@@ -15,43 +15,43 @@ const USAGE: &str = "usage: office SITE [RANKING], or office < INPUT";
 
 // The bytes of a file. A file that cannot be read is named on standard error.
 fn read_file(rt: &HostRuntime, name: &str) -> anyhow::Result<Vec<u8>> {
-    match fs::read(rt, name) {
-        Ok(bytes) => Ok(bytes),
-        Err(error) => {
-            eprintln!(rt; "office: cannot read {name}: {error}")?;
-            Err(error.into())
-        }
-    }
+    fs::read(rt, name).or_else(|error| {
+        eprintln!(rt; "office: cannot read {name}: {error}")?;
+        Err(error.into())
+    })
 }
 
-// Says the judgement, and what it means. Only an accepted input is a success.
-fn say(rt: &HostRuntime, judgement: Judgement, offered: bool) -> anyhow::Result<()> {
+// Says what is judged of a site file, and of a ranking if one is offered, and what that means. Only an accepted input is a success.
+fn say(rt: &HostRuntime, site: &[u8], ranking: Option<&[u8]>) -> anyhow::Result<()> {
+    let judgement = ranking.map_or_else(|| judge_site(site), |ranking| judge(site, ranking));
     let line = Line(judgement);
-    let explanation = Explanation { judgement, offered };
+    let explanation = Explanation {
+        judgement,
+        offered: ranking.is_some(),
+    };
     println!(rt; "{line}\n{explanation}")?;
-    match judgement {
-        Judgement::Accepted => Ok(()),
-        _ => Err(anyhow!("refused")),
-    }
+    judgement.map_err(|_| anyhow!("refused"))
 }
 
 fn judge_files(rt: &HostRuntime, site: &str, ranking: Option<String>) -> anyhow::Result<()> {
     let site = read_file(rt, site)?;
     let Some(name) = ranking else {
-        return say(rt, judge_site(&site), false);
+        return say(rt, &site, None);
     };
     let ranking = read_file(rt, name.as_str())?;
-    say(rt, judge(&site, &ranking), true)
+    say(rt, &site, Some(ranking.as_slice()))
 }
 
 fn judge_input(rt: &HostRuntime) -> anyhow::Result<()> {
     let mut input = Vec::new(rt.alloc());
     rt.stdin().take(FILE_BYTES as u64).read_to_end(&mut input)?;
     let (site, ranking) = split_input(&input);
-    if ranking.is_empty() {
-        return say(rt, judge_site(site), false);
-    }
-    say(rt, judge(site, ranking), true)
+    let offered = if ranking.is_empty() {
+        None
+    } else {
+        Some(ranking)
+    };
+    say(rt, site, offered)
 }
 
 fn run(rt: &HostRuntime) -> anyhow::Result<()> {
@@ -70,8 +70,9 @@ fn run(rt: &HostRuntime) -> anyhow::Result<()> {
 
 // What is wrong was said where it was found, so an error is not printed again.
 fn main(rt: HostRuntime) -> ExitCode {
-    match run(&rt) {
-        Ok(()) => ExitCode::SUCCESS,
-        Err(_) => ExitCode::FAILURE,
+    if run(&rt).is_ok() {
+        ExitCode::SUCCESS
+    } else {
+        ExitCode::FAILURE
     }
 }
