@@ -28,10 +28,7 @@ impl<A, B> Greater<A, B> {
 pub(crate) fn greater_of(first: Option<u32>, second: Option<u32>) -> Option<u32>
     ensures { result ≡ greater first second }
 {
-    match (first, second) {
-        (Some(a), Some(b)) => Some(a.max(b)),
-        _ => None,
-    }
+    Some(first?.max(second?))
 }
 
 impl<A: Estimator, B: Estimator> Estimator for Greater<A, B> {
