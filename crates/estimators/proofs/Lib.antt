@@ -1,4 +1,3 @@
 pub mod Counting
-pub mod Entering
 pub mod Linking
 pub mod Measuring
