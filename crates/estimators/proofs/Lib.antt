@@ -1,3 +1,4 @@
 pub mod Counting
 pub mod Linking
 pub mod Measuring
+pub mod Keeping

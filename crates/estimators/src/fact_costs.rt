@@ -3,7 +3,7 @@ ghost use Rattle.std.specs.Prelude.{◌≡◌, ℕ, ◌<◌, ◌≤◌, ◌≢�
 ghost use Rattle.std.specs.List.{fold, zip};
 ghost use Rattle.task.specs.Limits.{factor_limit, fact_limit};
 ghost use Rattle.estimators.specs.Columns.{cell, LowColumns, LowTable};
-ghost use Rattle.estimators.specs.Largest.{enlarged};
+ghost use Rattle.estimators.specs.Longest.{enlarged};
 ghost use Rattle.estimators.specs.Measuring.{reading};
 
 use crate::greater::greater_of;

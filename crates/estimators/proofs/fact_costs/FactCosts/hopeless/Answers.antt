@@ -1,4 +1,4 @@
-use Rattle.estimators.specs.Largest.{cell_blank, low_blank}
+use Rattle.estimators.proofs.Keeping.{cell_blank, low_blank}
 use Rattle.estimators.proofs.fact_costs.FactCosts.hopeless.Goals as goal
 
 pub invariant_of-result : goal.invariant_of-result

@@ -1,6 +1,6 @@
 use Rattle.std.proofs.Common.{◌<◌, length, slice_set, List, Option, ℕ, sym, ap, ◌∙◌, subst, rules}
 use Rattle.estimators.specs.Columns.{cell, LowColumns}
-use Rattle.estimators.specs.Largest.{low_more, cell_more, cell_other}
+use Rattle.estimators.proofs.Keeping.{low_more, cell_more, cell_other}
 use Rattle.estimators.proofs.fact_costs.FactCosts.put.Goals as goal
 
 pub invariant_of-self : goal.invariant_of-self

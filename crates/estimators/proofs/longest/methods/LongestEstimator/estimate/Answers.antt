@@ -1,6 +1,6 @@
 use Rattle.std.proofs.Common.{◌≤◌, length, ◌∙◌, rules}
 use Rattle.task.specs.Meaning.{state_of}
-use Rattle.estimators.specs.Largest.{greatest_folds}
+use Rattle.estimators.proofs.Keeping.{greatest_folds}
 use Rattle.estimators.proofs.longest.methods.LongestEstimator.estimate.Goals as goal
 
 pub returns : goal.returns

@@ -1,7 +1,8 @@
 use Rattle.std.proofs.Common.{◌≡◌, subst, arith}
 use Rattle.task.specs.Meaning.{meaning}
 use Rattle.estimators.specs.Longest.{ColumnsRight}
-use Rattle.estimators.specs.Largest.{columns_more, longest_exact}
+use Rattle.estimators.specs.Largest.{longest_exact}
+use Rattle.estimators.proofs.Keeping.{columns_more}
 use Rattle.estimators.proofs.longest.methods.LongestEstimator.ready.Goals as goal
 
 pub loop-factor-preserved : goal.loop-factor-preserved
