@@ -1,4 +1,4 @@
 pub mod Counting
-pub mod Entering
 pub mod Linking
 pub mod Measuring
+pub mod Keeping

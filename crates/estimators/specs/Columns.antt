@@ -1,14 +1,16 @@
 -- The costs of the facts of each factor, as the code has them. Assumes nothing.
 use Rattle.std.specs.Prelude.{◌≡◌, ℕ, ◌≤◌, List, [], get_or, Some, None, Option, slice_index_or}
-use Rattle.estimators.specs.declared.column.Column.{Column}
 use Rattle.estimators.specs.Limits.{estimate_limit}
 
+abbrev pub Columns : Type 0
+Columns = List (List (Option ℕ))
+
 -- by factor and fact: nothing past the end
-abbrev pub cell : List Column → ℕ → ℕ → Option ℕ
-cell columns j x = slice_index_or (get_or columns j (record { costs = [] })).costs x None
+abbrev pub cell : Columns → ℕ → ℕ → Option ℕ
+cell columns j x = slice_index_or (get_or columns j []) x None
 
 -- no cost is too high for an estimate
-abbrev pub LowColumns : List Column → Type 0
+abbrev pub LowColumns : Columns → Type 0
 LowColumns columns = (j x d : ℕ) → cell columns j x ≡ Some d → d ≤ estimate_limit
 
 abbrev pub LowTable : List (Option ℕ) → Type 0

@@ -7,7 +7,7 @@ use task::state::State;
 use task::task::Task;
 
 // It is right for every task, and estimates every state at 0.
-#[derive(Clone, Copy)]
+#[derive(Clone, Copy, Debug, PartialEq, Eq)]
 pub struct Blank;
 
 impl Estimator for Blank {

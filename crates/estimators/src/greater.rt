@@ -28,20 +28,17 @@ impl<A, B> Greater<A, B> {
 pub(crate) fn greater_of(first: Option<u32>, second: Option<u32>) -> Option<u32>
     ensures { result ≡ greater first second }
 {
-    match (first, second) {
-        (Some(a), Some(b)) => Some(a.max(b)),
-        _ => None,
-    }
+    Some(first?.max(second?))
 }
 
 impl<A: Estimator, B: Estimator> Estimator for Greater<A, B> {
-    ghost right = { λ e t. A.Estimator.right e.first t × B.Estimator.right e.second t };
+    ghost right = { λ e t. A.right e.first t × B.right e.second t };
 
-    ghost value = { λ e s. greater (A.Estimator.value e.first s) (B.Estimator.value e.second s) };
+    ghost value = { λ e s. greater (A.value e.first s) (B.value e.second s) };
 
-    ghost consistent = { λ e t r. greater_consistent t (A.Estimator.value e.first) (B.Estimator.value e.second) (A.Estimator.consistent e.first t r.0) (B.Estimator.consistent e.second t r.1) };
+    ghost consistent = { λ e t r. greater_consistent t (A.value e.first) (B.value e.second) (A.consistent e.first t r.0) (B.consistent e.second t r.1) };
 
-    ghost small = { λ e s v p. greater_small (A.Estimator.value e.first s) (B.Estimator.value e.second s) estimate_limit (λ v q. A.Estimator.small e.first s v q) (λ v q. B.Estimator.small e.second s v q) v p };
+    ghost small = { λ e s v p. greater_small (A.value e.first s) (B.value e.second s) estimate_limit (λ v q. A.small e.first s v q) (λ v q. B.small e.second s v q) v p };
 
     fn ready(&mut self, task: &Task) {
         self.first.ready(task);

@@ -2,15 +2,16 @@
 #![tactic(auto)]
 
 pub mod blank;
-mod column;
 mod distances;
 pub mod estimator;
+mod fact_costs;
 pub mod greater;
 mod incoming;
 mod limits;
 pub mod longest;
 mod one_factor;
 pub mod pair;
+mod product;
 mod projection;
 mod table;
 mod two_factors;

@@ -1,18 +1,11 @@
 // The largest distance over the factors of a task.
-ghost use Rattle.std.specs.Prelude.{◌≡◌, length};
-ghost use Rattle.task.specs.Limits.{factor_limit};
-ghost use Rattle.estimators.specs.Columns.{LowColumns};
-
-use crate::column::Column;
-use task::limits::FACTORS;
+use crate::fact_costs::FactCosts;
 
 mod methods;
 
-// For each factor, the distances of its facts.
+// The distance of each fact of each factor.
 #[derive(Drop)]
 pub struct Longest<L> {
     waiting: L,
-    columns: [Column; FACTORS],
-    ghost full: { length columns ≡ factor_limit },
-    ghost low: { LowColumns columns },
+    distances: FactCosts,
 }

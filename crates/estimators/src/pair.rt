@@ -2,6 +2,7 @@
 ghost use Rattle.estimators.specs.Columns.{LowTable};
 
 use crate::limits::NODES;
+use crate::two_factors::TwoFactors;
 
 mod methods;
 
@@ -9,9 +10,8 @@ mod methods;
 #[derive(Drop)]
 pub struct Pair<L> {
     waiting: L,
-    first: u8,
-    second: u8,
-    // How many facts the second factor has.
+    factors: TwoFactors,
+    // How many facts the second factor has: pairs go by number, row by row, in a table of fixed size.
     across: u8,
     table: [Option<u32>; NODES],
     ghost low: { LowTable table },

@@ -6,8 +6,5 @@ ghost use Rattle.estimators.specs.Measuring.{reading};
 pub(crate) fn look_up(table: &[Option<u32>], node: usize) -> Option<u32>
     ensures { result ≡ reading table.now node }
 {
-    match table.get(node) {
-        Some(cost) => *cost,
-        None => None,
-    }
+    table.get(node).copied().flatten()
 }
