@@ -32,10 +32,7 @@ impl<E: Estimator, L: WaitingList<SearchKey>> Planner<E, L> {
     fn plan_end(&self) -> Option<u16>
         ensures { result ≡ end_in self.now.phase }
     {
-        let Phase::Ended(word) = self.phase else {
-            return None;
-        };
-        match word {
+        match self.word()? {
             Word::Plan { end } => Some(end),
             Word::NoPlan | Word::Full => None,
         }
@@ -78,9 +75,8 @@ impl<E: Estimator, L: WaitingList<SearchKey>> Planner<E, L> {
         let Some(end) = self.plan_end() else {
             return Err(CallRefusal::NoPlan);
         };
-        match self.table.label_at(end as usize, position as usize) {
-            Some(label) => Ok(label),
-            None => Err(CallRefusal::PastPlan),
-        }
+        self.table
+            .label_at(end as usize, position as usize)
+            .ok_or(CallRefusal::PastPlan)
     }
 }
