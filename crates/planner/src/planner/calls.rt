@@ -28,11 +28,20 @@ impl<E: Estimator, L: WaitingList<SearchKey>> Planner<E, L> {
             ) => { Err(CallRefusal::Empty) }
             (Phase::Loaded | Phase::Ended(_), Call::Load(bytes)) => self.load(bytes),
             (Phase::Loaded | Phase::Ended(_), Call::Offer(bytes)) => self.offer(bytes),
-            (Phase::Loaded | Phase::Ended(_), Call::Withdraw) => self.withdraw(),
-            (Phase::Loaded | Phase::Ended(_), Call::Start) => self.start(),
+            (Phase::Loaded | Phase::Ended(_), Call::Withdraw) => {
+                self.withdraw();
+                Ok(())
+            }
+            (Phase::Loaded | Phase::Ended(_), Call::Start) => {
+                self.start();
+                Ok(())
+            }
             (Phase::Loaded | Phase::Ended(_), Call::Work(_) | Call::Stop) => Err(CallRefusal::Idle),
             (Phase::Running, Call::Work(takes)) => self.order(takes),
-            (Phase::Running, Call::Stop) => self.stop(),
+            (Phase::Running, Call::Stop) => {
+                self.stop();
+                Ok(())
+            }
             (Phase::Running, Call::Load(_) | Call::Offer(_) | Call::Withdraw | Call::Start) => {
                 Err(CallRefusal::Busy)
             }

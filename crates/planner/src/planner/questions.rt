@@ -54,11 +54,7 @@ impl<E: Estimator, L: WaitingList<SearchKey>> Planner<E, L> {
         ensures { result ≡ counts_of (view E.value L.holds self.now) }
     {
         match self.phase {
-            Phase::Empty | Phase::Loaded => Counts {
-                entries: 0,
-                taken: 0,
-                tried: 0,
-            },
+            Phase::Empty | Phase::Loaded => Counts::default(),
             Phase::Running | Phase::Ended(_) => Counts {
                 entries: self.table.count,
                 taken: self.taken,
