@@ -1,16 +1,8 @@
-use Rattle.std.proofs.Common.{Err, sym, refl, ap, ◌∙◌, subst}
+use Rattle.std.proofs.Common.{sym, refl, ap, ◌∙◌, subst}
 use Rattle.planner.specs.View.{view, phase_of}
 use Rattle.planner.specs.Questions.{LabelIn}
-use Rattle.astar.specs.declared.refusal.CallRefusal.TheVariants.{NoPlan}
-use Rattle.planner.proofs.Answering.{end_phase, no_end, label_in, tells_from, tells_none, names_from}
+use Rattle.planner.proofs.Answering.{end_phase, label_in, tells_from, names_from}
 use Rattle.planner.proofs.planner.Planner.label.Goals as goal
-
-pub returns-in_default : goal.returns-in_default
-returns-in_default g c =
-    let p = c.args.self.now in
-    let m = view g.E.Estimator.value g.L.WaitingList.holds p in
-    let tells = tells_none m c.args.position (no_end p.phase (sym c.plan_end.ensures ∙ c.in_default.is)) in
-    record { exact = tells; plan = names_from m c.args.position (Err NoPlan) tells }
 
 pub returns : goal.returns
 returns g c =
