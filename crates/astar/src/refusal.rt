@@ -40,11 +40,11 @@ impl From<Refusal> for CallRefusal {
     }
 }
 
-impl CallRefusal {
-    pub fn report(self) -> CallReport
-        ensures { result ≡ call_report_of self }
-    {
-        match self {
+impl From<CallRefusal> for CallReport {
+    ghost from_gives = { λ refusal report. report ≡ call_report_of refusal };
+
+    fn from(refusal: CallRefusal) -> CallReport {
+        match refusal {
             CallRefusal::Input(refusal) => CallReport::File(refusal.report()),
             CallRefusal::NoTakes => CallReport::Own(12),
             CallRefusal::PastPlan => CallReport::Own(13),

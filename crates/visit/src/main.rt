@@ -43,7 +43,7 @@ fn print_line(rt: &HostRuntime, line: Line) -> anyhow::Result<()> {
 }
 
 fn print_refusal(rt: &HostRuntime, refusal: CallRefusal) -> anyhow::Result<()> {
-    print_line(rt, Line::Refused(refusal.report()))
+    print_line(rt, Line::Refused(refusal.into()))
 }
 
 // Offers the ranking, if there is one, and runs to the end. A refused ranking is reported, and the run goes without it.
