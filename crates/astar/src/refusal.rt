@@ -1,6 +1,7 @@
 // Why a call to a planner, or a question to it, is refused, and how that is reported.
 ghost use Rattle.std.specs.Prelude.{◌≡◌};
 ghost use Rattle.astar.specs.Refusals.{call_report_of};
+ghost use Rattle.astar.specs.declared.refusal.CallRefusal.TheVariants.{Input};
 
 use site::refusal::{Refusal, Report};
 
@@ -27,15 +28,23 @@ pub enum CallRefusal {
 pub enum CallReport {
     // That of the file of the call.
     File(Report),
-    // One of the planner's own, by its number.
+    // One of the planner's own. A number is what the format of the box reports of each refusal.
     Own(u8),
 }
 
-impl CallRefusal {
-    pub fn report(self) -> CallReport
-        ensures { result ≡ call_report_of self }
-    {
-        match self {
+impl From<Refusal> for CallRefusal {
+    ghost from_gives = { λ refusal call. call ≡ Input refusal };
+
+    fn from(refusal: Refusal) -> CallRefusal {
+        CallRefusal::Input(refusal)
+    }
+}
+
+impl From<CallRefusal> for CallReport {
+    ghost from_gives = { λ refusal report. report ≡ call_report_of refusal };
+
+    fn from(refusal: CallRefusal) -> CallReport {
+        match refusal {
             CallRefusal::Input(refusal) => CallReport::File(Report::from(refusal)),
             CallRefusal::NoTakes => CallReport::Own(12),
             CallRefusal::PastPlan => CallReport::Own(13),

@@ -1,5 +1,4 @@
 mod Still
-mod Entering
 mod Rows
 mod Same
 mod Ruling
@@ -7,7 +6,6 @@ mod Expanding
 mod Taking
 mod Calming
 mod Working
-mod Starting
 mod Offering
 mod Calling
 mod Backing

@@ -1,5 +1,5 @@
 // What a planner is asked to do.
-#[derive(Clone, Copy)]
+#[derive(Clone, Copy, Debug, PartialEq, Eq)]
 pub enum Call<'a> {
     // A site file.
     Load(&'a [u8]),

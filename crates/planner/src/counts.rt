@@ -1,5 +1,5 @@
 // How far a run has come.
-#[derive(Clone, Copy)]
+#[derive(Clone, Copy, Debug, Default, PartialEq, Eq)]
 pub struct Counts {
     pub entries: usize,
     // How many entries were taken, and how many labels made a step from these.

@@ -1,7 +1,7 @@
 // What a planner is at.
 
 // How a run ended.
-#[derive(Clone, Copy)]
+#[derive(Clone, Copy, Debug, PartialEq, Eq)]
 pub enum Word {
     // With a plan, which ends in this entry.
     Plan { end: u16 },
@@ -11,7 +11,7 @@ pub enum Word {
     Full,
 }
 
-#[derive(Clone, Copy)]
+#[derive(Clone, Copy, Debug, PartialEq, Eq)]
 pub enum Phase {
     // No task.
     Empty,

@@ -30,7 +30,7 @@ where
 {
     match answer {
         Ok(_) => 0,
-        Err(refusal) => match refusal.report() {
+        Err(refusal) => match CallReport::from(refusal) {
             CallReport::File(report) => report.number,
             CallReport::Own(number) => number,
         },

@@ -34,7 +34,7 @@ fn print_line(rt: &HostRuntime, line: Line) -> anyhow::Result<()> {
 fn ask(rt: &HostRuntime, planner: &mut Visit, call: Call<'_>) -> anyhow::Result<()> {
     match planner.call(call) {
         Ok(()) => Ok(()),
-        Err(refusal) => print_line(rt, Line::Refused(refusal.report())),
+        Err(refusal) => print_line(rt, Line::Refused(refusal.into())),
     }
 }
 
@@ -90,7 +90,7 @@ fn main(rt: HostRuntime) -> anyhow::Result<()> {
     let pair = Pair::new(DistanceHeap::new(), 0, 1);
     let mut planner = Planner::new(Greater::new(longest, pair), SearchHeap::new());
     if let Err(refusal) = planner.call(Call::Load(site)) {
-        return print_line(&rt, Line::Refused(refusal.report()));
+        return print_line(&rt, Line::Refused(refusal.into()));
     }
     run(&rt, &mut planner, ranking)?;
     print_result(&rt, &planner)

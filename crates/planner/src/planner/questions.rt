@@ -32,10 +32,7 @@ impl<E: Estimator, L: WaitingList<SearchKey>> Planner<E, L> {
     fn plan_end(&self) -> Option<u16>
         ensures { result ≡ end_in self.now.phase }
     {
-        let Phase::Ended(word) = self.phase else {
-            return None;
-        };
-        match word {
+        match self.word()? {
             Word::Plan { end } => Some(end),
             Word::NoPlan | Word::Full => None,
         }
@@ -43,8 +40,8 @@ impl<E: Estimator, L: WaitingList<SearchKey>> Planner<E, L> {
 
     // The cost of the plan that is reported.
     pub fn cost(&self) -> Result<u32, CallRefusal>
-        ensures exact { Costs (view E.Estimator.value L.WaitingList.holds self.now) result }
-        ensures cheapest { Cheapness (view E.Estimator.value L.WaitingList.holds self.now) result }
+        ensures exact { Costs (view E.value L.holds self.now) result }
+        ensures cheapest { Cheapness (view E.value L.holds self.now) result }
     {
         let Some(end) = self.plan_end() else {
             return Err(CallRefusal::NoPlan);
@@ -54,14 +51,10 @@ impl<E: Estimator, L: WaitingList<SearchKey>> Planner<E, L> {
 
     // How many entries there are and were taken, and how many labels made a step: none where no run was begun.
     pub fn counts(&self) -> Counts
-        ensures { result ≡ counts_of (view E.Estimator.value L.WaitingList.holds self.now) }
+        ensures { result ≡ counts_of (view E.value L.holds self.now) }
     {
         match self.phase {
-            Phase::Empty | Phase::Loaded => Counts {
-                entries: 0,
-                taken: 0,
-                tried: 0,
-            },
+            Phase::Empty | Phase::Loaded => Counts::default(),
             Phase::Running | Phase::Ended(_) => Counts {
                 entries: self.table.count,
                 taken: self.taken,
@@ -72,15 +65,14 @@ impl<E: Estimator, L: WaitingList<SearchKey>> Planner<E, L> {
 
     // The label at a position of the plan that is reported.
     pub fn label(&self, position: u16) -> Result<u8, CallRefusal>
-        ensures exact { Tells (view E.Estimator.value L.WaitingList.holds self.now) position result }
-        ensures plan { Names (view E.Estimator.value L.WaitingList.holds self.now) position result }
+        ensures exact { Tells (view E.value L.holds self.now) position result }
+        ensures plan { Names (view E.value L.holds self.now) position result }
     {
         let Some(end) = self.plan_end() else {
             return Err(CallRefusal::NoPlan);
         };
-        match self.table.label_at(end as usize, position as usize) {
-            Some(label) => Ok(label),
-            None => Err(CallRefusal::PastPlan),
-        }
+        self.table
+            .label_at(end as usize, position as usize)
+            .ok_or(CallRefusal::PastPlan)
     }
 }
