@@ -1,9 +1,10 @@
 // The worked examples of runs: what is to be said of them is proved, and of two of their sites said.
 ghost use Rattle.planner_trials.specs.SearchWorked.{SearchWorked};
 
-use crate::samples::{SITE, changed};
-use explain::explanation::{Explanation, Line};
+use explain::explanation::Explanation;
 use ranking::judge::judge_site;
+use samples::files::{changed, sample_site};
+use samples::trial::Trial;
 
 // Carries the statement on the worked examples.
 fn worked() -> u8
@@ -12,15 +13,13 @@ fn worked() -> u8
     4
 }
 
-// The name of a site, its judgement, and the judgement in plain words.
 fn show_words(rt: &HostRuntime, name: &str, site: &[u8]) -> anyhow::Result<()> {
-    let judgement = judge_site(site);
-    let line = Line(judgement);
     let explanation = Explanation {
-        judgement,
+        judgement: judge_site(site),
         offered: false,
     };
-    println!(rt; "{name}: {line}\n{explanation}\n")?;
+    let trial = Trial { name, explanation };
+    println!(rt; "{trial}")?;
     Ok(())
 }
 
@@ -28,8 +27,8 @@ pub(crate) fn try_worked_sites(rt: &HostRuntime) -> anyhow::Result<()> {
     let heap = rt.alloc();
     let count = worked();
     println!(rt; "{count} worked examples\n")?;
-    let closed = changed(heap, SITE, 11, 3, &[])?;
+    let closed = changed(heap, sample_site(), 11..14, &[])?;
     show_words(rt, "without a goal in factor 0", &closed)?;
-    let done = changed(heap, SITE, 6, 1, &[1])?;
+    let done = changed(heap, sample_site(), 6..7, &[1])?;
     show_words(rt, "from a goal state", &done)
 }

@@ -4,7 +4,7 @@ use Rattle.site.specs.declared.refusal.Fault.TheVariants.{Truncated, Misplaced, 
 use Rattle.site.specs.declared.refusal.Refusal.TheVariants.{File, Chain, Goal, Reply}
 use Rattle.ranking.specs.Judging.{Judged}
 use Rattle.ranking.specs.declared.judge.Judgement.TheVariants.{Accepted, SiteRefused, RankingRefused}
-use Rattle.trials.specs.Samples.{site, dear_site, unpriced_site, long_site, ranking, unclosed, reversed, labelled, ending}
+use Rattle.samples.specs.Samples.{site, dear_site, unpriced_site, long_site, ranking, unclosed, reversed, labelled, ending}
 
 pub record Worked : Type 0 where
   -- the sample ranking may be relied on for the sample site

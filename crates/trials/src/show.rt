@@ -1,6 +1,7 @@
 // How a trial is printed.
 use explain::explanation::{Explanation, Line};
 use ranking::judge::{Judgement, judge, judge_site};
+use samples::trial::Trial;
 
 // The name of a trial, and the line of its judgement.
 fn show(rt: &HostRuntime, name: &str, judgement: Judgement) -> anyhow::Result<()> {
@@ -16,9 +17,9 @@ pub(crate) fn show_words(
     judgement: Judgement,
     offered: bool,
 ) -> anyhow::Result<()> {
-    show(rt, name, judgement)?;
     let explanation = Explanation { judgement, offered };
-    println!(rt; "{explanation}\n")?;
+    let trial = Trial { name, explanation };
+    println!(rt; "{trial}")?;
     Ok(())
 }
 

@@ -6,7 +6,7 @@ use Rattle.site.specs.Files.{Format, Ended, Stopped, Faulty, Sound, written}
 use Rattle.site.specs.SiteFile.{Described, Priced}
 use Rattle.site.specs.declared.refusal.Fault.{Fault}
 use Rattle.ranking.specs.Ranking.{every}
-use Rattle.trials.proofs.Deciding.{decides_by, every_decides, true_decides}
+use Rattle.samples.proofs.Deciding.{decides_by, every_decides, true_decides}
 
 pub none_from : {A : Type 0} (o : Option A) → not (is_some o) ≡ true → o ≡ None
 none_from None e = refl

@@ -10,7 +10,7 @@ use Rattle.ranking.specs.Ranking as subject
 use Rattle.ranking.specs.Ranking.{Ranking, Serves, Simulation, every}
 use Rattle.ranking.specs.Verdict.{Broken, Below, turn, FirstBroken}
 use Rattle.ranking.proofs.Dominating.{every_each}
-use Rattle.trials.proofs.Deciding.{
+use Rattle.samples.proofs.Deciding.{
   decides_by,
   refutes,
   true_unless,

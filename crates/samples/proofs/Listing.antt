@@ -8,7 +8,7 @@ use Rattle.ranking.specs.Ranking.{Ranking}
 use Rattle.ranking.specs.RankingFile.{Lists}
 use Rattle.ranking.specs.declared.listing.Listing.{Listing}
 use Rattle.ranking.specs.declared.listing.Listing.TheVariants.{Pair, End}
-use Rattle.planner_trials.proofs.Deciding.{decides_by, same_decides, and_decides, or_decides}
+use Rattle.samples.proofs.Deciding.{decides_by, same_decides, and_decides, or_decides}
 
 -- the command lists this pair
 abbrev pair_is : Listing → ℕ → ℕ → ℕ → Bool
