@@ -20,24 +20,21 @@ pub(crate) fn try_rankings(rt: &HostRuntime, site: &[u8], ranking: &[u8]) -> any
 }
 
 pub(crate) fn try_ranking_files(rt: &HostRuntime, site: &[u8]) -> anyhow::Result<()> {
-    show_ranking(rt, "an empty ranking file", site, &[])?;
-    show_ranking(rt, "a letter of site files", site, &[b'G', 0, 1, b'E'])?;
-    show_ranking(rt, "a pair cut short", site, &[b'P', 0, 0])?;
-    show_ranking(rt, "a ranking without end", site, &[b'P', 0, 0, 1])?;
-    show_ranking(rt, "a byte after the end", site, &[b'E', b'E'])?;
-    show_ranking(rt, "a third factor", site, &[b'P', 2, 0, 0, b'E'])?;
-    show_ranking(
-        rt,
-        "a lower fact out of range",
-        site,
-        &[b'P', 0, 2, 0, b'E'],
-    )?;
-    show_ranking(
-        rt,
-        "an upper fact out of range",
-        site,
-        &[b'P', 0, 0, 1, b'P', 1, 0, 3, b'E'],
-    )?;
-    show_ranking(rt, "a ranking for no site", &[], &[b'E'])?;
-    Ok(())
+    let files: &[(&str, &[u8])] = &[
+        ("an empty ranking file", &[]),
+        ("a letter of site files", &[b'G', 0, 1, b'E']),
+        ("a pair cut short", &[b'P', 0, 0]),
+        ("a ranking without end", &[b'P', 0, 0, 1]),
+        ("a byte after the end", &[b'E', b'E']),
+        ("a third factor", &[b'P', 2, 0, 0, b'E']),
+        ("a lower fact out of range", &[b'P', 0, 2, 0, b'E']),
+        (
+            "an upper fact out of range",
+            &[b'P', 0, 0, 1, b'P', 1, 0, 3, b'E'],
+        ),
+    ];
+    for (name, ranking) in files {
+        show_ranking(rt, name, site, ranking)?;
+    }
+    show_ranking(rt, "a ranking for no site", &[], &[b'E'])
 }
