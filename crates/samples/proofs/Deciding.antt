@@ -1,7 +1,8 @@
--- Tests that decide a statement, put together.
-use Rattle.std.proofs.Common.{◌≡◌, ℕ, zero, suc, ◌<◌, ◌≤◌, Bool, true, false, not, ◌&&◌, ◌||◌, eqb, ltb, leb, ◌⊎◌, Some, None, Decides, Option, refl, subst, inl, inr, arith}
-use borrow.Author.Tests.{clash, both_ways}
-use Rattle.std.proofs.lemmas.Bool.{ltb-true, lt-ltb, leb-true, le-leb, eqb-true, eq-eqb, and_parts, and_from, or_cases, or_left, or_right, not-true, not_from_false, cases_Bool}
+-- Tests that decide a statement, besides those of std.
+use Rattle.std.proofs.Common.{◌≡◌, ℕ, zero, suc, ◌<◌, ◌≤◌, Bool, true, false, not, leb, Some, None, Decides, Option, refl, subst, inl, inr, arith}
+use borrow.Author.Tests.{clash}
+use Rattle.std.proofs.lemmas.Bool.{leb-true, le-leb, or_cases, not-true, not_from_false, cases_Bool}
+use Rattle.std.proofs.lemmas.Bool.Decides.{not_from_Decides}
 use Rattle.site.specs.SiteFile.{some}
 use Rattle.site.proofs.Drafting.{some_at}
 use Rattle.ranking.specs.Ranking.{every}
@@ -13,44 +14,15 @@ true_decides b = (λ e. e, λ e. e)
 pub false_decides : (b : Bool) → Decides (not b) (b ≡ false)
 false_decides b = (not-true b, not_from_false b)
 
-pub less_decides : (a b : ℕ) → Decides (ltb a b) (a < b)
-less_decides a b = (ltb-true a b, lt-ltb a b)
-
 pub most_decides : (a b : ℕ) → Decides (leb a b) (a ≤ b)
 most_decides a b = (leb-true a b, le-leb a b)
-
-pub same_decides : (a b : ℕ) → Decides (eqb a b) (a ≡ b)
-same_decides a b = (eqb-true a b, eq-eqb a b)
-
--- the same test decides what is equivalent
-pub decides_by : {b : Bool} {P Q : Type 0} → (P → Q) → (Q → P) → Decides b P → Decides b Q
-decides_by f g d = (λ e. f (d.0 e), λ q. d.1 (g q))
-
-pub and_decides : {a b : Bool} {P Q : Type 0} → Decides a P → Decides b Q → Decides (a && b) (P × Q)
-and_decides {a} {b} d e = (λ h. let w = and_parts a b h in (d.0 w.0, e.0 w.1), λ w. and_from a b (d.1 w.0) (e.1 w.1))
-
-pub or_decides : {a b : Bool} {P Q : Type 0} → Decides a P → Decides b Q → Decides (a || b) (P ⊎ Q)
-or_decides {a} {b} d e = (
-  λ h. elim (or_cases a b h) [ inl p ↦ inl (d.0 p) | inr q ↦ inr (e.0 q) ],
-  λ w. elim w [ inl p ↦ or_left a b (d.1 p) | inr q ↦ or_right a b (e.1 q) ],
-)
-
--- what is tested false does not hold
-pub refutes : {b : Bool} {P : Type 0} → Decides b P → b ≡ false → P → ⊥
-refutes {b} d e p = both_ways b e (d.1 p)
-
-pub not_decides : {b : Bool} {P : Type 0} → Decides b P → Decides (not b) (P → ⊥)
-not_decides {b} d = (
-  λ e. refutes d (not-true b e),
-  λ n. elim (cases_Bool b) [ inl e ↦ absurd (n (d.0 e)) | inr e ↦ not_from_false b e ],
-)
 
 -- what cannot fail holds
 pub true_unless : (b : Bool) → (b ≡ false → ⊥) → b ≡ true
 true_unless b n = elim (cases_Bool b) [ inl p ↦ p | inr p ↦ absurd (n p) ]
 
 pub holds_unless : {b : Bool} {P : Type 0} → Decides b P → ((P → ⊥) → ⊥) → P
-holds_unless {b} d n = d.0 (true_unless b (λ e. n (refutes d e)))
+holds_unless {b} d n = d.0 (true_unless b (λ e. n (not_from_Decides b d e)))
 
 -- ---- at each number below a bound, and at some
 pub every_decides : {p : ℕ → Bool} {P : ℕ → Type 0} (n : ℕ) → ((k : ℕ) → Decides (p k) (P k)) → Decides (every p n) ((k : ℕ) → k < n → P k)
@@ -76,9 +48,9 @@ holds p None = false
 holds p (Some y) = p y
 
 pub always_decides : {p : ℕ → Bool} {P : ℕ → Type 0} (o : Option ℕ) → ((y : ℕ) → Decides (p y) (P y)) → Decides (always p o) ((y : ℕ) → o ≡ Some y → P y)
-always_decides None d = (λ e y s. let z : ◌≡◌ {A = ℕ} 0 1 = cc in absurd (omega arith), λ all. refl)
+always_decides None d = (λ e y s. absurd (cc), λ all. refl)
 always_decides {p} {P} (Some x) d = (λ e y s. let q : x ≡ y = cc in subst P q ((d x).0 e), λ all. (d x).1 (all x refl))
 
 pub holds_decides : {p : ℕ → Bool} {P : ℕ → Type 0} (o : Option ℕ) → ((y : ℕ) → Decides (p y) (P y)) → Decides (holds p o) ((y : ℕ) × (o ≡ Some y) × P y)
-holds_decides None d = (λ e. absurd (clash e), λ w. let s = w.1 in let z : ◌≡◌ {A = ℕ} 0 1 = cc in absurd (omega arith))
+holds_decides None d = (λ e. absurd (cc), λ w. absurd (cc w.1))
 holds_decides {p} {P} (Some x) d = (λ e. (x, refl, (d x).0 e), λ w. let s = w.1 in let q : w.0 ≡ x = cc in (d x).1 (subst P q w.2))

@@ -8,7 +8,7 @@ use Rattle.site.specs.declared.refusal.Fault.TheVariants.{Truncated, Misplaced, 
 use Rattle.ranking.specs.Judging.{site_refused, site_alone, ranking_refused, ranking_fit}
 use Rattle.ranking.specs.declared.listing.Listing.TheVariants.{Pair}
 use Rattle.samples.specs.Samples.{labelled, ending}
-use Rattle.samples.proofs.Deciding.{refutes}
+use Rattle.std.proofs.lemmas.Bool.Decides.{not_from_Decides}
 use Rattle.samples.proofs.Accepting.{ended, stopped_at_once, priced_decides}
 use Rattle.samples.proofs.Reading.{site_read, fit, unfit, costing, costless, linked, ranking_listed, freed, sample_read, dear_read}
 use Rattle.trials.specs.Worked.{Worked}
@@ -23,7 +23,7 @@ worked_examples = record {
   empty = λ _. site_refused (stopped (lit≤ tt) (stopped_at_once site_file [] Truncated (inl refl)));
   bare_end = λ _. site_refused (stopped (lit≤ tt) (stopped_at_once site_file ending Misplaced (inr (End, [], refl, refl))));
   one_more = λ b _. site_refused (trailing (lit≤ tt) (ended site_file refl (costing 30) (b ∷ []) refl) ((priced_decides (describes (costing 30))).0 refl) (lit< tt));
-  unpriced = λ _. site_refused (lacks (lit≤ tt) (ended site_file refl costless [] refl) (refutes (priced_decides (describes costless)) refl));
+  unpriced = λ _. site_refused (lacks (lit≤ tt) (ended site_file refl costless [] refl) (not_from_Decides _ (priced_decides (describes costless)) refl));
   most_labels = site_alone (site_read (freed 63) refl refl);
   one_label_more = λ _. site_refused (stopped (lit≤ tt) (stopped_at_once site_file (labelled 64) OutOfRange (inr (Sizes 1 64, _, refl, refl))));
 }
