@@ -2,7 +2,7 @@
 use Rattle.std.proofs.Common.{◌≡◌, ℕ, zero, suc, ◌<◌, ◌≤◌, Bool, true, false, not, leb, Some, None, Decides, Option, refl, subst, inl, inr, arith}
 use borrow.Author.Tests.{clash}
 use Rattle.std.proofs.lemmas.Bool.{leb-true, le-leb, or_cases, not-true, not_from_false, cases_Bool}
-use Rattle.std.proofs.lemmas.Bool.Decides.{not_from_Decides}
+use Rattle.std.proofs.lemmas.Bool.Decides.{nat_tests, not_from_Decides}
 use Rattle.site.specs.SiteFile.{some}
 use Rattle.site.proofs.Drafting.{some_at}
 use Rattle.ranking.specs.Ranking.{every}
@@ -12,14 +12,14 @@ pub true_decides : (b : Bool) → Decides b (b ≡ true)
 true_decides b = (λ e. e, λ e. e)
 
 pub false_decides : (b : Bool) → Decides (not b) (b ≡ false)
-false_decides b = (not-true b, not_from_false b)
+false_decides b = (λ e. grind arith, λ e. grind arith)
 
 pub most_decides : (a b : ℕ) → Decides (leb a b) (a ≤ b)
-most_decides a b = (leb-true a b, le-leb a b)
+most_decides a b = (λ e. grind (arith, nat_tests), λ e. grind (arith, nat_tests))
 
 -- what cannot fail holds
 pub true_unless : (b : Bool) → (b ≡ false → ⊥) → b ≡ true
-true_unless b n = elim (cases_Bool b) [ inl p ↦ p | inr p ↦ absurd (n p) ]
+true_unless b n = grind arith
 
 pub holds_unless : {b : Bool} {P : Type 0} → Decides b P → ((P → ⊥) → ⊥) → P
 holds_unless {b} d n = d.0 (true_unless b (λ e. n (not_from_Decides b d e)))

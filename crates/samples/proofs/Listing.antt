@@ -2,7 +2,7 @@
 use Rattle.std.proofs.Common.{◌≡◌, ℕ, Bool, true, false, ◌&&◌, ◌||◌, eqb, List, [], ◌∷◌, Decides, refl, arith}
 use borrow.Author.Tests.{clash}
 use Rattle.std.proofs.lemmas.Bool.{eq-eqb, or_left}
-use Rattle.std.proofs.lemmas.Bool.Decides.{Decides-eqb, Decides-and, Decides-or, Decides-like}
+use Rattle.std.proofs.lemmas.Bool.Decides.{nat_tests, Decides-eqb, Decides-and, Decides-or, Decides-like}
 use Rattle.task.specs.Task.{FactoredTask}
 use Rattle.site.specs.Files.{Among}
 use Rattle.ranking.specs.Ranking.{Ranking}
@@ -24,12 +24,8 @@ abbrev pub ranked : List Listing → Ranking
 ranked cs j a b = eqb a b || listed cs j a b
 
 pair_decides : (c : Listing) (j a b : ℕ) → Decides (pair_is c j a b) (c ≡ Pair j a b)
-pair_decides (Pair i x y) j a b =
-    Decides-like _
-    (λ w. let p = w.0 in let q = w.1.0 in let s = w.1.1 in cc)
-    (λ e. let p : i ≡ j = cc in let q : x ≡ a = cc in let s : y ≡ b = cc in (p, (q, s)))
-    (Decides-and _ _ (Decides-eqb i j) (Decides-and _ _ (Decides-eqb x a) (Decides-eqb y b)))
-pair_decides End j a b = (λ e. absurd (clash e), λ e. let z : ◌≡◌ {A = ℕ} 0 1 = cc in absurd (omega arith))
+pair_decides (Pair i x y) j a b = (λ e. grind (arith, nat_tests), λ e. grind (arith, nat_tests))
+pair_decides End j a b = (λ e. cc, λ e. cc)
 
 listed_decides : (cs : List Listing) (j a b : ℕ) → Decides (listed cs j a b) (Among (Pair j a b) cs)
 listed_decides [] j a b = (λ e. absurd (clash e), λ w. absurd w)

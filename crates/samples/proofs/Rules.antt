@@ -2,7 +2,7 @@
 use Rattle.std.proofs.Common.{◌≡◌, ℕ, suc, ◌<◌, Bool, true, false, not, ◌&&◌, ◌||◌, eqb, ltb, leb, List, [], ◌∷◌, Decides, subst, inl, inr, arith}
 use borrow.Author.Tests.{clash}
 use Rattle.std.proofs.lemmas.Bool.{and_parts, cases_eq, not-true}
-use Rattle.std.proofs.lemmas.Bool.Decides.{Decides-eqb, Decides-ltb, Decides-and, Decides-or, Decides-not, Decides-like, not_from_Decides}
+use Rattle.std.proofs.lemmas.Bool.Decides.{nat_tests, Decides-eqb, Decides-ltb, Decides-and, Decides-or, Decides-not, Decides-like, not_from_Decides}
 use Rattle.task.specs.Task.{FactoredTask, move, price}
 use Rattle.site.specs.SiteFile.{some}
 use Rattle.site.specs.declared.refusal.Refusal.{Refusal}
@@ -73,7 +73,7 @@ module _ (t : FactoredTask) (r : Ranking) where
   inside i a b = ltb i t.factors && (ltb a (t.facts i) && ltb b (t.facts i))
 
   inside_decides : (i a b : ℕ) → Decides (inside i a b) ((i < t.factors) × ((a < t.facts i) × (b < t.facts i)))
-  inside_decides i a b = Decides-and _ _ (Decides-ltb i t.factors) (Decides-and _ _ (Decides-ltb a (t.facts i)) (Decides-ltb b (t.facts i)))
+  inside_decides i a b = (λ e. grind (arith, nat_tests), λ w. grind (arith, nat_tests))
 
   -- a rule is broken where the refusal says
   abbrev pub breaks : Refusal → Bool
@@ -97,11 +97,7 @@ module _ (t : FactoredTask) (r : Ranking) where
       (Decides-and _ _ (inside_decides i a b) (Decides-and _ _
       (Decides-and _ _ (Decides-not _ (Decides-eqb a b)) (some_decides (t.facts i) (λ c. Decides-and _ _ (true_decides (r i a c)) (true_decides (r i c b)))))
       (false_decides (r i a b))))
-  breaks_decides (Goal i a b) =
-      Decides-like _
-      (λ w. record { factor = w.0.0; from = w.0.1.0; to = w.0.1.1; ranked = w.1.0; goal = w.1.1.0; miss = w.1.1.1 })
-      (λ f. ((f.factor, (f.from, f.to)), (f.ranked, (f.goal, f.miss))))
-      (Decides-and _ _ (inside_decides i a b) (Decides-and _ _ (true_decides (r i a b)) (Decides-and _ _ (true_decides (t.goal i a)) (false_decides (t.goal i b)))))
+  breaks_decides (Goal i a b) = (λ e. grind (arith, nat_tests), λ f. grind (arith, nat_tests))
   breaks_decides (Reply i a b k) =
       Decides-like _
       (λ w. let q = w.1.1.1 in record {
