@@ -35,4 +35,4 @@ pub ranked_lists : (t : FactoredTask) (cs : List Listing) → Lists t cs (ranked
 ranked_lists t cs j a b jl al bl = Decides-or _ _ (Decides-eqb a b) (listed_decides cs j a b)
 
 pub ranked_self : (cs : List Listing) (i a : ℕ) → ranked cs i a a ≡ true
-ranked_self cs i a = or_left _ (listed cs i a a) (eq-eqb a a refl)
+ranked_self cs i a = grind (arith, nat_tests)

@@ -165,12 +165,7 @@ module _ (t : FactoredTask) (r : Ranking) where
     pub simulation : Simulation t r
     simulation = record {
       self = λ i a hi ha. self i a;
-      chain = λ i a b c hi ha hb hc p q. elim (cases_eq a c) [
-        | inl s ↦ subst (λ (x : ℕ). r i a x ≡ true) s (self i a)
-        | inr n ↦ true_unless (r i a c) (λ u. unbroken (Chain i a c) (record { factor = hi; from = ha; to = hc; chain = (n, (b, hb, p, q)); unranked = u }))
-      ];
-      goal = λ i a b hi ha hb p g. true_unless (t.goal i b) (λ m.
-          unbroken (Goal i a b) (record { factor = hi; from = ha; to = hb; ranked = p; goal = g; miss = m }));
-      reply = λ i a b k a' hi ha hb hk p m. holds_unless (reply_decides i k a' b) (λ n.
-          unbroken (Reply i a b k) (record { factor = hi; from = ha; to = hb; known = hk; ranked = p; into = a'; moves = m; unanswered = n }));
+      chain = λ i a b c hi ha hb hc p q. let u = unbroken (Chain i a c) in let e = self i a in grind (arith, nat_tests);
+      goal = λ i a b hi ha hb p g. let u = unbroken (Goal i a b) in grind arith;
+      reply = λ i a b k a' hi ha hb hk p m. holds_unless (reply_decides i k a' b) (λ n. let u = unbroken (Reply i a b k) in grind arith);
     }
