@@ -30,10 +30,7 @@ every_decides {p} n d = (λ e k h. (d k).0 (every_each p n e k h), λ all. each_
 
 some_found : (p : ℕ → Bool) (n : ℕ) → some p n ≡ true → (k : ℕ) × (k < n) × (p k ≡ true)
 some_found p zero e = absurd (clash e)
-some_found p (suc n) e = elim (or_cases (some p n) (p n) e) [
-  | inl h ↦ let w = some_found p n h in let l = w.1 in (w.0, omega arith, w.2)
-  | inr h ↦ (n, omega arith, h)
-]
+some_found p (suc n) e = let w = some_found p n in grind (arith, nat_tests)
 
 pub some_decides : {p : ℕ → Bool} {P : ℕ → Type 0} (n : ℕ) → ((k : ℕ) → Decides (p k) (P k)) → Decides (some p n) ((k : ℕ) × (k < n) × P k)
 some_decides {p} n d = (λ e. let w = some_found p n e in (w.0, w.1, (d w.0).0 w.2), λ w. some_at p n w.0 w.1 ((d w.0).1 w.2))

@@ -24,7 +24,7 @@ below_decides : (xs ys : List ℕ) → Decides (below xs ys) (Below xs ys)
 below_decides [] [] = (λ e. absurd (clash e), λ w. absurd w)
 below_decides [] (y ∷ ys) = (λ e. absurd (clash e), λ w. absurd w)
 below_decides (x ∷ xs) [] = (λ e. absurd (clash e), λ w. absurd w)
-below_decides (x ∷ xs) (y ∷ ys) = Decides-or _ _ (Decides-ltb x y) (Decides-and _ _ (Decides-eqb x y) (below_decides xs ys))
+below_decides (x ∷ xs) (y ∷ ys) = let d = below_decides xs ys in (λ e. grind (arith, nat_tests), λ w. grind (arith, nat_tests))
 
 module _ (t : FactoredTask) (r : Ranking) where
   -- ---- replies
@@ -85,34 +85,12 @@ module _ (t : FactoredTask) (r : Ranking) where
   breaks_decides : (f : Refusal) → Decides (breaks f) (Broken t r f)
   breaks_decides (File fault at) = (λ e. absurd (clash e), λ w. absurd w)
   breaks_decides (Chain i a b) =
-      Decides-like _
-      (λ w. let c = w.1.0 in record {
-        factor = w.0.0;
-        from = w.0.1.0;
-        to = w.0.1.1;
-        chain = (c.0, (c.1.0, c.1.1, c.1.2.0, c.1.2.1));
-        unranked = w.1.1;
-      })
-      (λ f. let c = f.chain in ((f.factor, (f.from, f.to)), ((c.0, (c.1.0, c.1.1, (c.1.2, c.1.3))), f.unranked)))
-      (Decides-and _ _ (inside_decides i a b) (Decides-and _ _
-      (Decides-and _ _ (Decides-not _ (Decides-eqb a b)) (some_decides (t.facts i) (λ c. Decides-and _ _ (true_decides (r i a c)) (true_decides (r i c b)))))
-      (false_decides (r i a b))))
+      let d = some_decides (t.facts i) (λ c. Decides-and _ _ (true_decides (r i a c)) (true_decides (r i c b))) in
+      (λ e. grind (arith, nat_tests), λ f. grind (arith, nat_tests))
   breaks_decides (Goal i a b) = (λ e. grind (arith, nat_tests), λ f. grind (arith, nat_tests))
   breaks_decides (Reply i a b k) =
-      Decides-like _
-      (λ w. let q = w.1.1.1 in record {
-        factor = w.0.0;
-        from = w.0.1.0;
-        to = w.0.1.1;
-        known = w.1.0;
-        ranked = w.1.1.0;
-        into = q.0;
-        moves = q.1;
-        unanswered = q.2;
-      })
-      (λ f. ((f.factor, (f.from, f.to)), (f.known, (f.ranked, (f.into, f.moves, f.unanswered)))))
-      (Decides-and _ _ (inside_decides i a b) (Decides-and _ _ (most_decides k t.labels) (Decides-and _ _ (true_decides (r i a b))
-      (holds_decides (move t i k a) (λ a'. Decides-not _ (reply_decides i k a' b))))))
+      let d = holds_decides (move t i k a) (λ a'. Decides-not _ (reply_decides i k a' b)) in
+      (λ e. grind (arith, nat_tests), λ f. grind (arith, nat_tests))
 
   -- ---- the test p passes at each place where a rule could be broken
   abbrev pub everywhere : (Refusal → Bool) → Bool
