@@ -1,7 +1,6 @@
 -- Tests that decide a statement, besides those of std.
-use Rattle.std.proofs.Common.{◌≡◌, ℕ, zero, suc, ◌<◌, ◌≤◌, Bool, true, false, not, leb, Some, None, Decides, Option, refl, subst, inl, inr, arith}
+use Rattle.std.proofs.Common.{◌≡◌, ℕ, zero, suc, ◌<◌, ◌≤◌, Bool, true, false, not, leb, Some, None, Decides, Option, refl, subst, arith}
 use borrow.Author.Tests.{clash}
-use Rattle.std.proofs.lemmas.Bool.{leb-true, le-leb, or_cases, not-true, not_from_false, cases_Bool}
 use Rattle.std.proofs.lemmas.Bool.Decides.{nat_tests, not_from_Decides}
 use Rattle.site.specs.SiteFile.{some}
 use Rattle.site.proofs.Drafting.{some_at}

@@ -1,8 +1,7 @@
 -- The relation that a row of listings lists, as a test.
-use Rattle.std.proofs.Common.{◌≡◌, ℕ, Bool, true, false, ◌&&◌, ◌||◌, eqb, List, [], ◌∷◌, Decides, refl, arith}
+use Rattle.std.proofs.Common.{◌≡◌, ℕ, Bool, true, false, ◌&&◌, ◌||◌, eqb, List, [], ◌∷◌, Decides, arith}
 use borrow.Author.Tests.{clash}
-use Rattle.std.proofs.lemmas.Bool.{eq-eqb, or_left}
-use Rattle.std.proofs.lemmas.Bool.Decides.{nat_tests, Decides-eqb, Decides-and, Decides-or, Decides-like}
+use Rattle.std.proofs.lemmas.Bool.Decides.{nat_tests, Decides-eqb, Decides-or}
 use Rattle.task.specs.Task.{FactoredTask}
 use Rattle.site.specs.Files.{Among}
 use Rattle.ranking.specs.Ranking.{Ranking}

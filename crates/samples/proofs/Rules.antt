@@ -1,8 +1,8 @@
 -- Whether a ranking is a simulation, and where it first breaks a rule, as tests.
-use Rattle.std.proofs.Common.{◌≡◌, ℕ, suc, ◌<◌, Bool, true, false, not, ◌&&◌, ◌||◌, eqb, ltb, leb, List, [], ◌∷◌, Decides, subst, inl, inr, arith}
+use Rattle.std.proofs.Common.{◌≡◌, ℕ, suc, ◌<◌, Bool, true, false, not, ◌&&◌, ◌||◌, eqb, ltb, leb, List, [], ◌∷◌, Decides, inl, inr, arith}
 use borrow.Author.Tests.{clash}
 use Rattle.std.proofs.lemmas.Bool.{and_parts, cases_eq, not-true}
-use Rattle.std.proofs.lemmas.Bool.Decides.{nat_tests, Decides-eqb, Decides-ltb, Decides-and, Decides-or, Decides-not, Decides-like, not_from_Decides}
+use Rattle.std.proofs.lemmas.Bool.Decides.{nat_tests, Decides-eqb, Decides-and, Decides-or, Decides-not, Decides-like, not_from_Decides}
 use Rattle.task.specs.Task.{FactoredTask, move, price}
 use Rattle.site.specs.SiteFile.{some}
 use Rattle.site.specs.declared.refusal.Refusal.{Refusal}
@@ -11,7 +11,7 @@ use Rattle.ranking.specs.Ranking as subject
 use Rattle.ranking.specs.Ranking.{Ranking, Serves, Simulation, every}
 use Rattle.ranking.specs.Verdict.{Broken, Below, turn, FirstBroken}
 use Rattle.ranking.proofs.Dominating.{every_each}
-use Rattle.samples.proofs.Deciding.{true_unless, holds_unless, true_decides, false_decides, most_decides, every_decides, some_decides, always, holds, always_decides, holds_decides}
+use Rattle.samples.proofs.Deciding.{holds_unless, true_decides, most_decides, every_decides, some_decides, always, holds, always_decides, holds_decides}
 
 -- ---- the order of the places
 abbrev below : List ℕ → List ℕ → Bool
