@@ -16,7 +16,7 @@ pub extern "C" fn plan_site(site: &[u8], rounds: u32) -> u64 {
         let _ = planner.call(Call::Start);
         let _ = planner.call(Call::Work(TAKES));
     }
-    let cost = planner.cost().map_or(0, |cost| cost as u64);
+    let cost = planner.cost().map_or(0, u64::from);
     let counts = planner.counts();
     cost.wrapping_mul(1000000000000)
         .wrapping_add((counts.entries as u64).wrapping_mul(1000000))

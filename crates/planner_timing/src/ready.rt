@@ -13,9 +13,8 @@ fn repeat<E: Estimator>(estimator: &mut E, task: &Task, rounds: u32) -> u64 {
     let mut sum = 0u64;
     for _ in 0..rounds {
         estimator.ready(task);
-        if let Some(estimate) = estimator.estimate(task, &start) {
-            sum = sum.wrapping_add(estimate as u64);
-        }
+        let estimate = estimator.estimate(task, &start);
+        sum = sum.wrapping_add(estimate.map_or(0, u64::from));
     }
     sum
 }

@@ -12,8 +12,7 @@ use lists::keys::DistanceKey;
 use lists::row::Row;
 use samples::random::Random;
 use site::read::read_site;
-use std::fmt;
-use task::limits::FACTORS;
+use std::{array, fmt};
 use task::state::State;
 use task::task::Task;
 
@@ -67,13 +66,9 @@ fn distance(task: &Task, state: &State, first: u8, second: u8) -> Option<u32> {
 }
 
 fn random_state(task: &Task, random: &mut Random) -> State {
-    let mut state = State {
-        facts: [0; FACTORS],
-    };
-    for (factor, fact) in state.facts.iter_mut().enumerate() {
-        *fact = random.below(task.facts(factor as u8));
+    State {
+        facts: array::from_fn(|factor| random.below(task.facts(factor as u8))),
     }
-    state
 }
 
 const TASKS: u32 = 1000;

@@ -1,8 +1,6 @@
 // The worked examples of runs: what is to be said of them is proved, and of two of their sites said.
 ghost use Rattle.planner_trials.specs.SearchWorked.{SearchWorked};
 
-use explain::explanation::Explanation;
-use ranking::judge::judge_site;
 use samples::files::{changed, sample_site};
 use samples::trial::Trial;
 
@@ -13,22 +11,13 @@ fn worked() -> u8
     4
 }
 
-fn show_words(rt: &HostRuntime, name: &str, site: &[u8]) -> anyhow::Result<()> {
-    let explanation = Explanation {
-        judgement: judge_site(site),
-        offered: false,
-    };
-    let trial = Trial { name, explanation };
-    println!(rt; "{trial}")?;
-    Ok(())
-}
-
 pub(crate) fn try_worked_sites(rt: &HostRuntime) -> anyhow::Result<()> {
     let heap = rt.alloc();
     let count = worked();
     println!(rt; "{count} worked examples\n")?;
     let closed = changed(heap, sample_site(), 11..14, &[])?;
-    show_words(rt, "without a goal in factor 0", &closed)?;
+    println!(rt; "{}", Trial::of_site("without a goal in factor 0", &closed))?;
     let done = changed(heap, sample_site(), 6..7, &[1])?;
-    show_words(rt, "from a goal state", &done)
+    println!(rt; "{}", Trial::of_site("from a goal state", &done))?;
+    Ok(())
 }
