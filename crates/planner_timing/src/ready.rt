@@ -13,14 +13,14 @@ fn repeat<E: Estimator>(estimator: &mut E, task: &Task, rounds: u32) -> u64 {
     let mut sum = 0u64;
     for _ in 0..rounds {
         estimator.ready(task);
-        if let Some(estimate) = estimator.estimate(task, &start) {
-            sum = sum.wrapping_add(estimate as u64);
-        }
+        let estimate = estimator.estimate(task, &start);
+        sum = sum.wrapping_add(estimate.map_or(0, u64::from));
     }
     sum
 }
 
-// By longest, by the pair of factors 0 and 1, or by the greater of both; 0 for a site that is refused.
+// By longest, by the pair of factors 0 and 1, or by the greater of both; 0 for a site that is refused. Which of them is a
+// number since this is called from C.
 #[unsafe(no_mangle)]
 pub extern "C" fn make_ready(site: &[u8], which: u8, rounds: u32) -> u64 {
     let Ok(task) = read_site(site) else {

@@ -1,3 +1,2 @@
--- The definitions that the statement on the sample files cites.
-pub mod Samples
+-- The statement on the worked examples of runs.
 pub mod SearchWorked

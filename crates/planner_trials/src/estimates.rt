@@ -1,5 +1,4 @@
 // The estimators beside distances that are found by rounds of relaxation.
-use crate::random::Random;
 use crate::relaxing::{Part, Rounds};
 use crate::tasks::random_site;
 use anyhow::anyhow;
@@ -11,9 +10,9 @@ use estimators::pair::Pair;
 use lists::heaps::DistanceHeap;
 use lists::keys::DistanceKey;
 use lists::row::Row;
+use samples::random::Random;
 use site::read::read_site;
-use std::fmt;
-use task::limits::FACTORS;
+use std::{array, fmt};
 use task::state::State;
 use task::task::Task;
 
@@ -33,38 +32,25 @@ const WORKED: &[u8; 47] = b"T\x02\x02\
     M\x01\x02\x00\x01\
     E";
 
-// What an estimator is to give.
-#[derive(Clone, Copy)]
-enum Wanted {
-    Nothing,
-    Largest,
-    Distance { first: u8, second: u8 },
-    // The greater of the largest distance and that of factors 0 and 1.
-    Both,
-}
-
 fn greater(first: Option<u32>, second: Option<u32>) -> Option<u32> {
     Some(first?.max(second?))
 }
 
 fn fact(state: &State, factor: u8) -> u8 {
-    match state.facts.get(factor as usize) {
-        Some(fact) => *fact,
-        None => 0,
-    }
+    state.facts.get(factor as usize).copied().unwrap_or(0)
 }
 
 // The largest distance of a fact of the state, by rounds of relaxation.
 fn largest(task: &Task, state: &State) -> Option<u32> {
-    let mut most = Some(0);
-    for factor in 0..task.factors {
-        let part = Part {
-            first: factor,
-            second: None,
-        };
-        most = greater(most, Rounds::of(task, part).cost(fact(state, factor), 0));
-    }
-    most
+    (0..task.factors)
+        .map(|factor| {
+            let part = Part {
+                first: factor,
+                second: None,
+            };
+            Rounds::of(task, part).cost(fact(state, factor), 0)
+        })
+        .fold(Some(0), greater)
 }
 
 // The distance of a pair of facts of the state, by rounds of relaxation.
@@ -79,25 +65,10 @@ fn distance(task: &Task, state: &State, first: u8, second: u8) -> Option<u32> {
     Rounds::of(task, part).cost(fact(state, first), fact(state, second))
 }
 
-impl Wanted {
-    fn at(self, task: &Task, state: &State) -> Option<u32> {
-        match self {
-            Wanted::Nothing => Some(0),
-            Wanted::Largest => largest(task, state),
-            Wanted::Distance { first, second } => distance(task, state, first, second),
-            Wanted::Both => greater(largest(task, state), distance(task, state, 0, 1)),
-        }
-    }
-}
-
 fn random_state(task: &Task, random: &mut Random) -> State {
-    let mut state = State {
-        facts: [0; FACTORS],
-    };
-    for (factor, fact) in state.facts.iter_mut().enumerate() {
-        *fact = random.below(task.facts(factor as u8));
+    State {
+        facts: array::from_fn(|factor| random.below(task.facts(factor as u8))),
     }
-    state
 }
 
 const TASKS: u32 = 1000;
@@ -105,7 +76,7 @@ const TASKS: u32 = 1000;
 const STATES: u32 = 10;
 
 // What came of a row of estimates: how many there were, how many were as wanted, and how many of these hopeless.
-#[derive(Clone, Copy)]
+#[derive(Clone, Copy, Default)]
 struct Tally {
     all: u32,
     equal: u32,
@@ -127,77 +98,86 @@ impl Tally {
     }
 }
 
-// Makes an estimator ready for random tasks, one after the other, and asks it at random states.
-fn try_estimator<E: Estimator>(
+impl fmt::Display for Tally {
+    fn fmt<W: fmt::Write>(&self, f: &mut fmt::Formatter<W>) -> fmt::Result {
+        let Tally {
+            all,
+            equal,
+            hopeless,
+            sum,
+        } = *self;
+        write!(
+            f,
+            "{equal} of {all} estimates equal, {hopeless} hopeless, sum {sum}"
+        )
+    }
+}
+
+// Makes an estimator ready for random tasks, one after the other, and asks it at random states for what is wanted there.
+fn try_estimator<E: Estimator, W: Fn(&Task, &State) -> Option<u32> + Drop>(
     rt: &HostRuntime,
     name: &str,
     estimator: &mut E,
-    wanted: Wanted,
-) -> anyhow::Result<()> {
+    wanted: W,
+) -> anyhow::Result<()>
+    requires { W.IsAlwaysCallable wanted }
+{
     let mut random = Random { state: 3 };
-    let mut tally = Tally {
-        all: 0,
-        equal: 0,
-        hopeless: 0,
-        sum: 0,
-    };
+    let mut tally = Tally::default();
     for _ in 0..TASKS {
         let site = random_site(rt.alloc(), &mut random)?;
         if let Ok(task) = read_site(&site) {
             estimator.ready(&task);
-            try_states(&task, &mut random, estimator, wanted, &mut tally);
+            try_states(&task, &mut random, estimator, &wanted, &mut tally);
         }
     }
-    let Tally {
-        all,
-        equal,
-        hopeless,
-        sum,
-    } = tally;
-    println!(rt; "{name}: {equal} of {all} estimates equal, {hopeless} hopeless, sum {sum}")?;
+    println!(rt; "{name}: {tally}")?;
     Ok(())
 }
 
-fn try_states<E: Estimator>(
+fn try_states<E: Estimator, W: Fn(&Task, &State) -> Option<u32>>(
     task: &Task,
     random: &mut Random,
     estimator: &E,
-    wanted: Wanted,
+    wanted: &W,
     tally: &mut Tally,
-) {
+)
+    requires { W.IsAlwaysCallable wanted.now }
+{
     for _ in 0..STATES {
         let state = random_state(task, random);
-        tally.note(estimator.estimate(task, &state), wanted.at(task, &state));
+        tally.note(estimator.estimate(task, &state), wanted(task, &state));
     }
 }
 
 fn try_pairs(rt: &HostRuntime) -> anyhow::Result<()> {
     let mut pair = Pair::new(DistanceHeap::new(), 0, 1);
-    let wanted = Wanted::Distance {
-        first: 0,
-        second: 1,
-    };
-    try_estimator(rt, "pair of 0 and 1, heap", &mut pair, wanted)?;
+    try_estimator(rt, "pair of 0 and 1, heap", &mut pair, |task, state| {
+        distance(task, state, 0, 1)
+    })?;
     let mut turned = Pair::new(Row::<DistanceKey>::new(), 2, 0);
-    let wanted = Wanted::Distance {
-        first: 2,
-        second: 0,
-    };
-    try_estimator(rt, "pair of 2 and 0, row", &mut turned, wanted)?;
+    try_estimator(rt, "pair of 2 and 0, row", &mut turned, |task, state| {
+        distance(task, state, 2, 0)
+    })?;
     let mut same = Pair::new(DistanceHeap::new(), 1, 1);
-    try_estimator(rt, "pair of 1 and 1, heap", &mut same, Wanted::Nothing)
+    try_estimator(rt, "pair of 1 and 1, heap", &mut same, |_, _| Some(0))
 }
 
 pub(crate) fn try_random(rt: &HostRuntime) -> anyhow::Result<()> {
-    try_estimator(rt, "blank", &mut Blank, Wanted::Nothing)?;
+    try_estimator(rt, "blank", &mut Blank, |_, _| Some(0))?;
     let mut longest = Longest::new(DistanceHeap::new());
-    try_estimator(rt, "longest, heap", &mut longest, Wanted::Largest)?;
+    try_estimator(rt, "longest, heap", &mut longest, largest)?;
     let mut scanned = Longest::new(Row::<DistanceKey>::new());
-    try_estimator(rt, "longest, row", &mut scanned, Wanted::Largest)?;
+    try_estimator(rt, "longest, row", &mut scanned, largest)?;
     try_pairs(rt)?;
     let pair = Pair::new(DistanceHeap::new(), 0, 1);
     let mut both = Greater::new(longest, pair);
-    try_estimator(rt, "greater of longest and pair", &mut both, Wanted::Both)
+    try_estimator(
+        rt,
+        "greater of longest and pair",
+        &mut both,
+        |task, state| { greater(largest(task, state), distance(task, state, 0, 1)) },
+    )
 }
 
 // An estimate as it is printed.
@@ -215,9 +195,7 @@ impl fmt::Display for Shown {
 
 // The estimates of the worked example at each of its states.
 pub(crate) fn try_worked(rt: &HostRuntime) -> anyhow::Result<()> {
-    let Ok(task) = read_site(WORKED) else {
-        return Err(anyhow!("the worked example is refused"));
-    };
+    let task = read_site(WORKED).map_err(|_| anyhow!("the worked example is refused"))?;
     let mut longest = Longest::new(DistanceHeap::new());
     let mut pair = Pair::new(DistanceHeap::new(), 0, 1);
     longest.ready(&task);

@@ -1,12 +1,9 @@
 // Trials: the estimators beside distances that are found by rounds of relaxation, and the planner on worked examples.
 #![tactic(auto)]
 
-mod calls;
 mod estimates;
 mod phases;
-mod random;
 mod relaxing;
-mod samples;
 mod tasks;
 mod visits;
 mod worked;

@@ -1,6 +1,7 @@
 // Random site files: small tasks, some without a plan.
-use crate::random::Random;
+use samples::random::Random;
 use std::alloc::{AllocError, Global};
+use std::array;
 
 // A label in a factor: self-loops, nothing, or some transitions.
 fn push_moves(
@@ -34,7 +35,7 @@ fn push_factor(
             site.extend_from_slice(&[b'G', factor, fact])?;
         }
     }
-    for label in 1..labels {
+    for label in 1..=labels {
         push_moves(site, random, factor, label, facts)?;
     }
     Ok(())
@@ -43,22 +44,16 @@ fn push_factor(
 // A site of 1 to 3 factors of 1 to 5 facts, and 1 to 6 labels of cost 0 to 9.
 pub(crate) fn random_site(heap: Global, random: &mut Random) -> Result<Vec<u8>, AllocError> {
     let factors = random.below(3) + 1;
-    let labels = random.below(6) + 2;
-    let mut site = vec![in heap; b'T', factors, labels - 1]?;
-    let sizes = [
-        random.below(5) + 1,
-        random.below(5) + 1,
-        random.below(5) + 1,
-    ];
-    for factor in 0..factors {
-        let facts = sizes[factor as usize % 3];
+    let labels = random.below(6) + 1;
+    let mut site = vec![in heap; b'T', factors, labels]?;
+    let sizes: [u8; 3] = array::from_fn(|_| random.below(5) + 1);
+    for (factor, facts) in (0..factors).zip(sizes) {
         site.extend_from_slice(&[b'F', factor, facts, random.below(facts)])?;
     }
-    for label in 1..labels {
+    for label in 1..=labels {
         site.extend_from_slice(&[b'C', label, 0, random.below(10)])?;
     }
-    for factor in 0..factors {
-        let facts = sizes[factor as usize % 3];
+    for (factor, facts) in (0..factors).zip(sizes) {
         push_factor(&mut site, random, factor, facts, labels)?;
     }
     site.push(b'E')?;

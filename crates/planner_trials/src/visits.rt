@@ -1,7 +1,5 @@
 // The planner on worked examples: what it comes to, by each estimator, each list and several sizes of orders.
-use crate::calls::{start, work};
-use crate::samples::{RANKING, SITE, changed};
-use anyhow::anyhow;
+use anyhow::ensure;
 use estimators::blank::Blank;
 use estimators::estimator::Estimator;
 use estimators::greater::Greater;
@@ -12,41 +10,46 @@ use lists::keys::SearchKey;
 use lists::row::Row;
 use lists::waiting::WaitingList;
 use planner::call::Call;
+use planner::counts::Counts;
 use planner::phase::{Phase, Word};
 use planner::planner::Planner;
+use samples::files::{changed, sample_ranking, sample_site};
 use std::alloc::{AllocError, Global};
+use std::fmt;
 
 // So many orders of one take end every run.
 const ORDERS: u16 = 1025;
 
 // Starts a run, and orders so many takes until it ends.
 fn run<E: Estimator, L: WaitingList<SearchKey>>(planner: &mut Planner<E, L>, takes: u16) {
-    let _ = planner.call(start());
+    let _ = planner.call(Call::Start);
     for _ in 0..ORDERS {
         if let Phase::Running = planner.phase() {
-            let _ = planner.call(work(takes));
+            let _ = planner.call(Call::Work(takes));
         }
     }
 }
 
-fn word<E: Estimator, L: WaitingList<SearchKey>>(planner: &Planner<E, L>) -> &'static str {
-    match planner.word() {
-        Some(Word::Plan { end: _ }) => "plan",
-        Some(Word::NoPlan) => "no plan",
-        Some(Word::Full) => "full",
-        None => "no word",
+// The word on the last run as it is printed.
+#[derive(Clone, Copy)]
+struct Said(Option<Word>);
+
+impl fmt::Display for Said {
+    fn fmt<W: fmt::Write>(&self, f: &mut fmt::Formatter<W>) -> fmt::Result {
+        match self.0 {
+            Some(Word::Plan { .. }) => write!(f, "plan"),
+            Some(Word::NoPlan) => write!(f, "no plan"),
+            Some(Word::Full) => write!(f, "full"),
+            None => write!(f, "no word"),
+        }
     }
 }
 
 // How many labels the plan has.
-fn steps<E: Estimator, L: WaitingList<SearchKey>>(planner: &Planner<E, L>) -> u16 {
-    let mut steps = 0;
-    for position in 0..ORDERS {
-        if planner.label(position).is_ok() {
-            steps = position + 1;
-        }
-    }
-    steps
+fn steps<E: Estimator, L: WaitingList<SearchKey>>(planner: &Planner<E, L>) -> usize {
+    (0..ORDERS)
+        .take_while(|position| planner.label(*position).is_ok())
+        .count()
 }
 
 // One line on what a planner has come to.
@@ -55,22 +58,18 @@ fn show<E: Estimator, L: WaitingList<SearchKey>>(
     name: &str,
     planner: &Planner<E, L>,
 ) -> anyhow::Result<()> {
-    let word = word(planner);
-    let counts = planner.counts();
-    let entries = counts.entries;
-    let taken = counts.taken;
-    let tried = counts.tried;
-    match planner.cost() {
-        Ok(cost) => {
-            let steps = steps(planner);
-            println!(rt;
-                "{name}: {word}, cost {cost}, steps {steps}, taken {taken}, entries {entries}, tried {tried}"
-            )?;
-        }
-        Err(_) => {
-            println!(rt; "{name}: {word}, taken {taken}, entries {entries}, tried {tried}")?;
-        }
+    let word = Said(planner.word());
+    print!(rt; "{name}: {word}")?;
+    if let Ok(cost) = planner.cost() {
+        let steps = steps(planner);
+        print!(rt; ", cost {cost}, steps {steps}")?;
     }
+    let Counts {
+        entries,
+        taken,
+        tried,
+    } = planner.counts();
+    println!(rt; ", taken {taken}, entries {entries}, tried {tried}")?;
     Ok(())
 }
 
@@ -82,9 +81,10 @@ fn plan<E: Estimator, L: WaitingList<SearchKey>>(
     site: &[u8],
     takes: u16,
 ) -> anyhow::Result<()> {
-    if planner.call(Call::Load(site)).is_err() {
-        return Err(anyhow!("the site is refused"));
-    }
+    ensure!(
+        planner.call(Call::Load(site)).is_ok(),
+        "the site is refused"
+    );
     run(planner, takes);
     show(rt, name, planner)
 }
@@ -101,23 +101,24 @@ pub(crate) fn visit() -> Visit {
 // The sample, and what differs from it in one place.
 pub(crate) fn try_samples(rt: &HostRuntime) -> anyhow::Result<()> {
     let heap = rt.alloc();
+    let site = sample_site();
     let mut planner = visit();
-    plan(rt, "the sample without its ranking", &mut planner, SITE, 64)?;
-    let _ = planner.call(Call::Offer(RANKING));
+    plan(rt, "the sample without its ranking", &mut planner, site, 64)?;
+    let _ = planner.call(Call::Offer(sample_ranking()));
     run(&mut planner, 64);
     show(rt, "the sample with its ranking", &planner)?;
     plan(
         rt,
         "without the goal fact of factor 0",
         &mut planner,
-        &changed(heap, SITE, 11, 3, &[])?,
+        &changed(heap, site, 11..14, &[])?,
         64,
     )?;
     plan(
         rt,
         "begun at the goal fact of factor 0",
         &mut planner,
-        &changed(heap, SITE, 6, 1, &[1])?,
+        &changed(heap, site, 6..7, &[1])?,
         64,
     )
 }
@@ -131,21 +132,22 @@ pub(crate) fn turned(heap: Global, factors: u8) -> Result<Vec<u8>, AllocError> {
     for factor in 0..factors {
         site.extend_from_slice(&[b'G', factor, 1])?;
     }
-    for label in 0..factors {
-        site.extend_from_slice(&[b'C', label.saturating_add(1), 0, 1])?;
-        push_turns(&mut site, factors, label)?;
+    for turns in 0..factors {
+        site.extend_from_slice(&[b'C', turns + 1, 0, 1])?;
+        push_turns(&mut site, factors, turns)?;
     }
     site.push(b'E')?;
     Ok(site)
 }
 
-// What a label does in each factor.
-fn push_turns(site: &mut Vec<u8>, factors: u8, label: u8) -> Result<(), AllocError> {
+// What the label that turns one factor does in each.
+fn push_turns(site: &mut Vec<u8>, factors: u8, turns: u8) -> Result<(), AllocError> {
+    let label = turns.saturating_add(1);
     for factor in 0..factors {
-        if factor == label {
-            site.extend_from_slice(&[b'M', factor, label.saturating_add(1), 0, 1])?;
+        if factor == turns {
+            site.extend_from_slice(&[b'M', factor, label, 0, 1])?;
         } else {
-            site.extend_from_slice(&[b'S', factor, label.saturating_add(1)])?;
+            site.extend_from_slice(&[b'S', factor, label])?;
         }
     }
     Ok(())

@@ -4,31 +4,19 @@
 use lists::heaps::SearchHeap;
 use lists::keys::SearchKey;
 use lists::waiting::{CAPACITY, WaitingList};
+use samples::random::Random;
 
-// The next number of a linear congruential row.
-fn next(state: u64) -> u64 {
-    state
-        .wrapping_mul(6364136223846793005)
-        .wrapping_add(1442695040888963407)
-}
-
-// Puts a key under every number, and gives the row's last number.
-fn fill(heap: &mut SearchHeap, seed: u64) -> u64 {
-    let mut state = seed;
+// Puts a random key under every number.
+fn fill(heap: &mut SearchHeap, random: &mut Random) {
     for entry in 0..CAPACITY as u16 {
-        state = next(state);
-        let sum = ((state >> 40) & 0xffff) as u32;
-        let estimate = ((state >> 20) & 0xff) as u32;
-        let _ = heap.put(
-            entry as usize,
-            SearchKey {
-                sum,
-                estimate,
-                entry,
-            },
-        );
+        let number = random.next();
+        let key = SearchKey {
+            sum: ((number >> 40) & 0xffff) as u32,
+            estimate: ((number >> 20) & 0xff) as u32,
+            entry,
+        };
+        let _ = heap.put(entry as usize, key);
     }
-    state
 }
 
 // Takes every number, and gives a sum over the order in which they came.
@@ -45,10 +33,10 @@ fn drain(heap: &mut SearchHeap, start: u64) -> u64 {
 #[unsafe(no_mangle)]
 pub extern "C" fn fill_and_drain(seed: u64, rounds: u32) -> u64 {
     let mut heap = SearchHeap::new();
-    let mut state = seed;
+    let mut random = Random { state: seed };
     let mut sum = 0;
     for _ in 0..rounds {
-        state = fill(&mut heap, state);
+        fill(&mut heap, &mut random);
         sum = drain(&mut heap, sum);
     }
     sum

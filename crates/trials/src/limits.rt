@@ -4,34 +4,31 @@ use std::alloc::{AllocError, Global};
 
 // A site of one factor with one fact, and labels that cost nothing.
 fn labelled(heap: Global, labels: u8) -> Result<Vec<u8>, AllocError> {
-    let mut site = vec![in heap; 0x54, 1, labels, 0x46, 0, 1, 0]?;
-    for label in 0..labels {
-        site.extend_from_slice(&[0x43, label + 1, 0, 0])?;
+    let mut site = vec![in heap; b'T', 1, labels, b'F', 0, 1, 0]?;
+    for label in 1..=labels {
+        site.extend_from_slice(&[b'C', label, 0, 0])?;
     }
-    site.push(0x45)?;
+    site.push(b'E')?;
     Ok(site)
 }
 
 // A site of many factors, each with 16 facts, and one label that keeps them all.
 fn wide(heap: Global, factors: u8) -> Result<Vec<u8>, AllocError> {
-    let mut site = vec![in heap; 0x54, factors, 1]?;
+    let mut site = vec![in heap; b'T', factors, 1]?;
     for factor in 0..factors {
-        site.extend_from_slice(&[0x46, factor, 16, 15])?;
+        site.extend_from_slice(&[b'F', factor, 16, 15])?;
     }
     for factor in 0..factors {
-        site.extend_from_slice(&[0x53, factor, 1, 0x47, factor, 0])?;
+        site.extend_from_slice(&[b'S', factor, 1, b'G', factor, 0])?;
     }
-    site.extend_from_slice(&[0x43, 1, 0xFF, 0xFF, 0x45])?;
+    site.extend_from_slice(&[b'C', 1, 0xFF, 0xFF, b'E'])?;
     Ok(site)
 }
 
 // A ranking file that lists one pair over and over.
 fn long(heap: Global, pairs: usize) -> Result<Vec<u8>, AllocError> {
-    let mut ranking = Vec::new(heap);
-    for _ in 0..pairs {
-        ranking.extend_from_slice(&[0x50, 1, 2, 2])?;
-    }
-    ranking.push(0x45)?;
+    let mut ranking = [b'P', 1, 2, 2].repeat(heap, pairs)?;
+    ranking.push(b'E')?;
     Ok(ranking)
 }
 

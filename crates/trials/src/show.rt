@@ -1,24 +1,10 @@
-// How a trial is printed.
-use explain::explanation::{Explanation, Line};
+// How a trial is printed: its name, and the line of its judgement.
+use explain::explanation::Line;
 use ranking::judge::{Judgement, judge, judge_site};
 
-// The name of a trial, and the line of its judgement.
 fn show(rt: &HostRuntime, name: &str, judgement: Judgement) -> anyhow::Result<()> {
     let line = Line(judgement);
     println!(rt; "{name}: {line}")?;
-    Ok(())
-}
-
-// The same, with the judgement in plain words.
-pub(crate) fn show_words(
-    rt: &HostRuntime,
-    name: &str,
-    judgement: Judgement,
-    offered: bool,
-) -> anyhow::Result<()> {
-    show(rt, name, judgement)?;
-    let explanation = Explanation { judgement, offered };
-    println!(rt; "{explanation}\n")?;
     Ok(())
 }
 

@@ -1,121 +1,99 @@
 // Site files that differ from the sample in one place.
-use crate::samples::changed;
 use crate::show::show_site;
+use samples::files::changed;
+use std::ops::Range;
 
-// Shows the sample with some bytes replaced.
-fn try_changed(
-    rt: &HostRuntime,
-    name: &str,
-    site: &[u8],
-    at: usize,
-    gone: usize,
-    new: &[u8],
-) -> anyhow::Result<()> {
-    let file = changed(rt.alloc(), site, at, gone, new)?;
-    show_site(rt, name, &file)
+// A name, the places of the sample whose bytes are replaced, and the bytes that come there.
+type Change<'a> = (&'a str, Range<usize>, &'a [u8]);
+
+fn try_changes(rt: &HostRuntime, site: &[u8], changes: &[Change]) -> anyhow::Result<()> {
+    for (name, places, new) in changes {
+        let file = changed(rt.alloc(), site, places.start..places.end, new)?;
+        show_site(rt, name, &file)?;
+    }
+    Ok(())
 }
 
 // The order of the commands.
 pub(crate) fn try_order(rt: &HostRuntime, site: &[u8]) -> anyhow::Result<()> {
-    try_changed(rt, "no sizes", site, 0, 3, &[])?;
-    try_changed(rt, "sizes twice", site, 3, 0, &[0x54, 2, 2])?;
-    try_changed(rt, "the second factor first", site, 3, 4, &[])?;
-    try_changed(rt, "a factor twice", site, 7, 0, &[0x46, 0, 2, 0])?;
-    try_changed(rt, "a factor too many", site, 11, 0, &[0x46, 2, 1, 0])?;
-    try_changed(
+    try_changes(
         rt,
-        "a goal before the last factor",
         site,
-        7,
-        0,
-        &[0x47, 0, 0],
-    )?;
-    try_changed(rt, "the end before the last factor", site, 7, 53, &[0x45])?;
-    try_changed(
-        rt,
-        "out of turn and out of range",
-        site,
-        7,
-        0,
-        &[0x46, 0, 99, 99],
-    )?;
-    try_changed(
-        rt,
-        "costs before goals",
-        site,
-        11,
-        20,
-        b"C\x02\x00\x1EC\x01\x00\x1EG\x01\x02G\x01\x01G\x01\x00G\x00\x01",
-    )?;
-    Ok(())
+        &[
+            ("no sizes", 0..3, &[]),
+            ("sizes twice", 3..3, &[b'T', 2, 2]),
+            ("the second factor first", 3..7, &[]),
+            ("a factor twice", 7..7, &[b'F', 0, 2, 0]),
+            ("a factor too many", 11..11, &[b'F', 2, 1, 0]),
+            ("a goal before the last factor", 7..7, &[b'G', 0, 0]),
+            ("the end before the last factor", 7..60, &[b'E']),
+            ("out of turn and out of range", 7..7, &[b'F', 0, 99, 99]),
+            (
+                "costs before goals",
+                11..31,
+                b"C\x02\x00\x1EC\x01\x00\x1EG\x01\x02G\x01\x01G\x01\x00G\x00\x01",
+            ),
+        ],
+    )
 }
 
 // The ranges of the operands.
 pub(crate) fn try_ranges(rt: &HostRuntime, site: &[u8]) -> anyhow::Result<()> {
-    try_changed(rt, "no factors", site, 1, 1, &[0])?;
-    try_changed(rt, "13 factors", site, 1, 1, &[13])?;
-    try_changed(rt, "no labels", site, 2, 1, &[0])?;
-    try_changed(rt, "a factor without facts", site, 3, 4, &[0x46, 0, 0, 0])?;
-    try_changed(rt, "17 facts", site, 5, 1, &[17])?;
-    try_changed(rt, "a start that is no fact", site, 6, 1, &[2])?;
-    try_changed(rt, "a goal that is no fact", site, 13, 1, &[2])?;
-    try_changed(rt, "a goal of no factor", site, 12, 1, &[2])?;
-    try_changed(rt, "a cost of stay", site, 24, 1, &[0])?;
-    try_changed(rt, "a cost of no label", site, 24, 1, &[3])?;
-    try_changed(rt, "a transition from no fact", site, 34, 1, &[2])?;
-    try_changed(rt, "a transition to no fact", site, 35, 1, &[2])?;
-    try_changed(rt, "a transition by stay", site, 33, 1, &[0])?;
-    try_changed(rt, "self-loops of no factor", site, 42, 1, &[2])?;
-    Ok(())
+    try_changes(
+        rt,
+        site,
+        &[
+            ("no factors", 1..2, &[0]),
+            ("13 factors", 1..2, &[13]),
+            ("no labels", 2..3, &[0]),
+            ("a factor without facts", 3..7, &[b'F', 0, 0, 0]),
+            ("17 facts", 5..6, &[17]),
+            ("a start that is no fact", 6..7, &[2]),
+            ("a goal that is no fact", 13..14, &[2]),
+            ("a goal of no factor", 12..13, &[2]),
+            ("a cost of stay", 24..25, &[0]),
+            ("a cost of no label", 24..25, &[3]),
+            ("a transition from no fact", 34..35, &[2]),
+            ("a transition to no fact", 35..36, &[2]),
+            ("a transition by stay", 33..34, &[0]),
+            ("self-loops of no factor", 42..43, &[2]),
+        ],
+    )
 }
 
 // What is given twice.
 pub(crate) fn try_repeats(rt: &HostRuntime, site: &[u8]) -> anyhow::Result<()> {
-    try_changed(rt, "a goal fact twice", site, 14, 0, &[0x47, 0, 1])?;
-    try_changed(rt, "a cost twice", site, 27, 0, &[0x43, 1, 0, 30])?;
-    try_changed(rt, "a transition twice", site, 36, 0, &[0x4D, 0, 1, 0, 0])?;
-    try_changed(
+    try_changes(
         rt,
-        "self-loops after a transition",
         site,
-        36,
-        0,
-        &[0x53, 0, 1],
-    )?;
-    try_changed(
-        rt,
-        "a transition after self-loops",
-        site,
-        44,
-        0,
-        &[0x4D, 1, 1, 0, 1],
-    )?;
-    try_changed(rt, "self-loops twice", site, 44, 0, &[0x53, 1, 1])?;
-    try_changed(
-        rt,
-        "out of range before given twice",
-        site,
-        14,
-        0,
-        &[0x47, 2, 1],
-    )?;
-    Ok(())
+        &[
+            ("a goal fact twice", 14..14, &[b'G', 0, 1]),
+            ("a cost twice", 27..27, &[b'C', 1, 0, 30]),
+            ("a transition twice", 36..36, &[b'M', 0, 1, 0, 0]),
+            ("self-loops after a transition", 36..36, &[b'S', 0, 1]),
+            ("a transition after self-loops", 44..44, &[b'M', 1, 1, 0, 1]),
+            ("self-loops twice", 44..44, &[b'S', 1, 1]),
+            ("out of range before given twice", 14..14, &[b'G', 2, 1]),
+        ],
+    )
 }
 
 // Letters, operands and the end.
 pub(crate) fn try_ends(rt: &HostRuntime, site: &[u8]) -> anyhow::Result<()> {
-    try_changed(rt, "an unknown letter", site, 11, 1, &[0x67])?;
-    try_changed(rt, "a letter of ranking files", site, 11, 1, &[0x50])?;
-    try_changed(rt, "the last command cut short", site, 57, 3, &[])?;
-    try_changed(rt, "no end", site, 59, 1, &[])?;
-    try_changed(rt, "an end too early", site, 14, 0, &[0x45])?;
-    try_changed(
+    try_changes(
         rt,
-        "a label without cost, and a byte after the end",
         site,
-        27,
-        33,
-        &[0x45, 0],
-    )?;
-    Ok(())
+        &[
+            ("an unknown letter", 11..12, &[b'g']),
+            ("a letter of ranking files", 11..12, &[b'P']),
+            ("the last command cut short", 57..60, &[]),
+            ("no end", 59..60, &[]),
+            ("an end too early", 14..14, &[b'E']),
+            (
+                "a label without cost, and a byte after the end",
+                27..60,
+                &[b'E', 0],
+            ),
+        ],
+    )
 }

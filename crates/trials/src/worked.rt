@@ -1,9 +1,8 @@
 // The worked examples: what is to be said of each is proved, and then said.
 ghost use Rattle.trials.specs.Worked.{Worked};
 
-use crate::samples::changed;
-use crate::show::show_words;
-use ranking::judge::{judge, judge_site};
+use samples::files::changed;
+use samples::trial::Trial;
 
 // Carries the statement on the worked examples.
 fn worked() -> u8
@@ -20,28 +19,40 @@ pub(crate) fn try_worked_rankings(
     let heap = rt.alloc();
     let count = worked();
     println!(rt; "{count} worked examples\n")?;
-    show_words(rt, "the sample ranking", judge(site, ranking), true)?;
-    let open = changed(heap, ranking, 12, 4, &[])?;
-    show_words(rt, "without its last pair", judge(site, &open), true)?;
-    let goal = [0x50, 0, 1, 0, 0x45];
-    show_words(rt, "only 1 under 0 in factor 0", judge(site, &goal), true)?;
-    let reply = [0x50, 1, 1, 0, 0x45];
-    show_words(rt, "only 1 under 0 in factor 1", judge(site, &reply), true)?;
-    let dear = changed(heap, site, 26, 1, &[31])?;
-    show_words(
-        rt,
-        "the same with label 1 at cost 31",
-        judge(&dear, &reply),
-        true,
-    )
+    println!(rt;
+        "{}",
+        Trial::of_ranking("the sample ranking", site, ranking)
+    )?;
+    let open = changed(heap, ranking, 12..16, &[])?;
+    println!(rt;
+        "{}",
+        Trial::of_ranking("without its last pair", site, &open)
+    )?;
+    let goal = [b'P', 0, 1, 0, b'E'];
+    println!(rt;
+        "{}",
+        Trial::of_ranking("only 1 under 0 in factor 0", site, &goal)
+    )?;
+    let reply = [b'P', 1, 1, 0, b'E'];
+    println!(rt;
+        "{}",
+        Trial::of_ranking("only 1 under 0 in factor 1", site, &reply)
+    )?;
+    let dear = changed(heap, site, 26..27, &[31])?;
+    println!(rt;
+        "{}",
+        Trial::of_ranking("the same with label 1 at cost 31", &dear, &reply)
+    )?;
+    Ok(())
 }
 
 pub(crate) fn try_worked_sites(rt: &HostRuntime, site: &[u8]) -> anyhow::Result<()> {
     let heap = rt.alloc();
-    show_words(rt, "the empty file", judge_site(&[]), false)?;
-    show_words(rt, "45 alone", judge_site(&[0x45]), false)?;
-    let longer = changed(heap, site, 60, 0, &[0])?;
-    show_words(rt, "a byte added", judge_site(&longer), false)?;
-    let unpriced = changed(heap, site, 27, 4, &[])?;
-    show_words(rt, "without the second C", judge_site(&unpriced), false)
+    println!(rt; "{}", Trial::of_site("the empty file", &[]))?;
+    println!(rt; "{}", Trial::of_site("45 alone", &[b'E']))?;
+    let longer = changed(heap, site, 60..60, &[0])?;
+    println!(rt; "{}", Trial::of_site("a byte added", &longer))?;
+    let unpriced = changed(heap, site, 27..31, &[])?;
+    println!(rt; "{}", Trial::of_site("without the second C", &unpriced))?;
+    Ok(())
 }

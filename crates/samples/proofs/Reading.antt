@@ -11,10 +11,10 @@ use Rattle.ranking.specs.RankingFile.{ranking_file}
 use Rattle.ranking.specs.Judging.{Offered, Fit, Unfit, broken}
 use Rattle.ranking.specs.declared.listing.Listing.{Listing}
 use Rattle.ranking.specs.declared.listing.Listing.TheVariants.{Pair}
-use Rattle.planner_trials.specs.Samples.{site, dear_site, closed_site, open_site, ending}
-use Rattle.planner_trials.proofs.Listing.{ranked, ranked_lists, ranked_self}
-use Rattle.planner_trials.proofs.Rules.{breaks, clear, clear_before, first_broken, simulation}
-use Rattle.planner_trials.proofs.Files.{reads, ended, priced, priced_decides}
+use Rattle.samples.specs.Samples.{site, dear_site, closed_site, open_site, ending}
+use Rattle.samples.proofs.Listing.{ranked, ranked_lists, ranked_self}
+use Rattle.samples.proofs.Rules.{breaks, clear, clear_before, first_broken, simulation}
+use Rattle.samples.proofs.Accepting.{reads, ended, priced, priced_decides}
 
 -- ---- a site file that is accepted, by its commands, of which the last comes first
 abbrev pub site_read : (cs : List Command) → leb (length (written site_file cs ++ ending)) file_limit ≡ true → (reads site_file cs && priced (describes cs)) ≡ true

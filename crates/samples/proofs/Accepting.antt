@@ -2,11 +2,12 @@
 use Rattle.std.proofs.Common.{◌≡◌, ℕ, zero, suc, ◌<◌, ◌≤◌, Bool, true, not, ◌&&◌, ltb, List, [], ◌∷◌, ◌++◌, length, is_some, Some, None, Decides, Option, refl, ap, arith}
 use borrow.Author.Tests.{clash}
 use Rattle.std.proofs.lemmas.Bool.{and_parts, ltb-true}
+use Rattle.std.proofs.lemmas.Bool.Decides.{Decides-like}
 use Rattle.site.specs.Files.{Format, Ended, Stopped, Faulty, Sound, written}
 use Rattle.site.specs.SiteFile.{Described, Priced}
 use Rattle.site.specs.declared.refusal.Fault.{Fault}
 use Rattle.ranking.specs.Ranking.{every}
-use Rattle.trials.proofs.Deciding.{decides_by, every_decides, true_decides}
+use Rattle.samples.proofs.Deciding.{every_decides, true_decides}
 
 pub none_from : {A : Type 0} (o : Option A) → not (is_some o) ≡ true → o ≡ None
 none_from None e = refl
@@ -56,7 +57,7 @@ one_less P n all (suc l) low high = all l (omega arith)
 
 pub priced_decides : (t : Described) → Decides (priced t) (Priced t)
 priced_decides t =
-    decides_by
+    Decides-like _
     (one_less (λ l. is_some (t.cost l) ≡ true) t.labels)
     (λ p l h. p (suc l) (omega arith) (omega arith))
     (every_decides t.labels (λ l. true_decides (is_some (t.cost (suc l)))))

@@ -1,7 +1,8 @@
 -- Whether a ranking is a simulation, and where it first breaks a rule, as tests.
-use Rattle.std.proofs.Common.{◌≡◌, ℕ, suc, ◌<◌, Bool, true, false, not, ◌&&◌, ◌||◌, eqb, ltb, leb, List, [], ◌∷◌, Decides, subst, inl, inr, arith}
+use Rattle.std.proofs.Common.{◌≡◌, ℕ, suc, ◌<◌, Bool, true, false, not, ◌&&◌, ◌||◌, eqb, ltb, leb, List, [], ◌∷◌, Decides, inl, inr, arith}
 use borrow.Author.Tests.{clash}
 use Rattle.std.proofs.lemmas.Bool.{and_parts, cases_eq, not-true}
+use Rattle.std.proofs.lemmas.Bool.Decides.{nat_tests, Decides-eqb, Decides-and, Decides-or, Decides-not, Decides-like, not_from_Decides}
 use Rattle.task.specs.Task.{FactoredTask, move, price}
 use Rattle.site.specs.SiteFile.{some}
 use Rattle.site.specs.declared.refusal.Refusal.{Refusal}
@@ -10,26 +11,7 @@ use Rattle.ranking.specs.Ranking as subject
 use Rattle.ranking.specs.Ranking.{Ranking, Serves, Simulation, every}
 use Rattle.ranking.specs.Verdict.{Broken, Below, turn, FirstBroken}
 use Rattle.ranking.proofs.Dominating.{every_each}
-use Rattle.trials.proofs.Deciding.{
-  decides_by,
-  refutes,
-  true_unless,
-  holds_unless,
-  true_decides,
-  false_decides,
-  less_decides,
-  most_decides,
-  same_decides,
-  and_decides,
-  or_decides,
-  not_decides,
-  every_decides,
-  some_decides,
-  always,
-  holds,
-  always_decides,
-  holds_decides,
-}
+use Rattle.samples.proofs.Deciding.{holds_unless, true_decides, most_decides, every_decides, some_decides, always, holds, always_decides, holds_decides}
 
 -- ---- the order of the places
 abbrev below : List ℕ → List ℕ → Bool
@@ -42,7 +24,7 @@ below_decides : (xs ys : List ℕ) → Decides (below xs ys) (Below xs ys)
 below_decides [] [] = (λ e. absurd (clash e), λ w. absurd w)
 below_decides [] (y ∷ ys) = (λ e. absurd (clash e), λ w. absurd w)
 below_decides (x ∷ xs) [] = (λ e. absurd (clash e), λ w. absurd w)
-below_decides (x ∷ xs) (y ∷ ys) = or_decides (less_decides x y) (and_decides (same_decides x y) (below_decides xs ys))
+below_decides (x ∷ xs) (y ∷ ys) = let d = below_decides xs ys in (λ e. grind (arith, nat_tests), λ w. grind (arith, nat_tests))
 
 module _ (t : FactoredTask) (r : Ranking) where
   -- ---- replies
@@ -51,7 +33,7 @@ module _ (t : FactoredTask) (r : Ranking) where
 
   serves_decides : (j k m : ℕ) → Decides (serves j k m) (Serves t r j k m)
   serves_decides j k m =
-      decides_by
+      Decides-like _
       (λ all x y h e. all x h y e)
       (λ s x h y e. s x y h e)
       (every_decides (t.facts j) (λ x. always_decides (move t j k x) (λ y. holds_decides (move t j m x) (λ z. true_decides (r j y z)))))
@@ -66,7 +48,7 @@ module _ (t : FactoredTask) (r : Ranking) where
 
   reply_decides : (i k a b : ℕ) → Decides (reply i k a b) (subject.Reply t r i k a b)
   reply_decides i k a b =
-      decides_by
+      Decides-like _
       (λ w. let l = w.1 in let h = w.2.1.0 in record {
         label = w.0;
         into = h.0;
@@ -82,16 +64,16 @@ module _ (t : FactoredTask) (r : Ranking) where
         (q.cheap, ((q.into, q.moves, q.better), λ j jl. elim (cases_eq j i) [ inl e ↦ inl e | inr n ↦ inr (q.serves j jl n) ])),
       ))
       (some_decides (suc t.labels) (λ m.
-      and_decides (most_decides (price t m) (price t k)) (
-      and_decides (holds_decides (move t i m b) (λ z. true_decides (r i a z)))
-      (every_decides t.factors (λ j. or_decides (same_decides j i) (serves_decides j k m))))))
+      Decides-and _ _ (most_decides (price t m) (price t k)) (
+      Decides-and _ _ (holds_decides (move t i m b) (λ z. true_decides (r i a z)))
+      (every_decides t.factors (λ j. Decides-or _ _ (Decides-eqb j i) (serves_decides j k m))))))
 
   -- ---- faults
   abbrev inside : ℕ → ℕ → ℕ → Bool
   inside i a b = ltb i t.factors && (ltb a (t.facts i) && ltb b (t.facts i))
 
   inside_decides : (i a b : ℕ) → Decides (inside i a b) ((i < t.factors) × ((a < t.facts i) × (b < t.facts i)))
-  inside_decides i a b = and_decides (less_decides i t.factors) (and_decides (less_decides a (t.facts i)) (less_decides b (t.facts i)))
+  inside_decides i a b = (λ e. grind (arith, nat_tests), λ w. grind (arith, nat_tests))
 
   -- a rule is broken where the refusal says
   abbrev pub breaks : Refusal → Bool
@@ -103,38 +85,12 @@ module _ (t : FactoredTask) (r : Ranking) where
   breaks_decides : (f : Refusal) → Decides (breaks f) (Broken t r f)
   breaks_decides (File fault at) = (λ e. absurd (clash e), λ w. absurd w)
   breaks_decides (Chain i a b) =
-      decides_by
-      (λ w. let c = w.1.0 in record {
-        factor = w.0.0;
-        from = w.0.1.0;
-        to = w.0.1.1;
-        chain = (c.0, (c.1.0, c.1.1, c.1.2.0, c.1.2.1));
-        unranked = w.1.1;
-      })
-      (λ f. let c = f.chain in ((f.factor, (f.from, f.to)), ((c.0, (c.1.0, c.1.1, (c.1.2, c.1.3))), f.unranked)))
-      (and_decides (inside_decides i a b) (and_decides
-      (and_decides (not_decides (same_decides a b)) (some_decides (t.facts i) (λ c. and_decides (true_decides (r i a c)) (true_decides (r i c b)))))
-      (false_decides (r i a b))))
-  breaks_decides (Goal i a b) =
-      decides_by
-      (λ w. record { factor = w.0.0; from = w.0.1.0; to = w.0.1.1; ranked = w.1.0; goal = w.1.1.0; miss = w.1.1.1 })
-      (λ f. ((f.factor, (f.from, f.to)), (f.ranked, (f.goal, f.miss))))
-      (and_decides (inside_decides i a b) (and_decides (true_decides (r i a b)) (and_decides (true_decides (t.goal i a)) (false_decides (t.goal i b)))))
+      let d = some_decides (t.facts i) (λ c. Decides-and _ _ (true_decides (r i a c)) (true_decides (r i c b))) in
+      (λ e. grind (arith, nat_tests), λ f. grind (arith, nat_tests))
+  breaks_decides (Goal i a b) = (λ e. grind (arith, nat_tests), λ f. grind (arith, nat_tests))
   breaks_decides (Reply i a b k) =
-      decides_by
-      (λ w. let q = w.1.1.1 in record {
-        factor = w.0.0;
-        from = w.0.1.0;
-        to = w.0.1.1;
-        known = w.1.0;
-        ranked = w.1.1.0;
-        into = q.0;
-        moves = q.1;
-        unanswered = q.2;
-      })
-      (λ f. ((f.factor, (f.from, f.to)), (f.known, (f.ranked, (f.into, f.moves, f.unanswered)))))
-      (and_decides (inside_decides i a b) (and_decides (most_decides k t.labels) (and_decides (true_decides (r i a b))
-      (holds_decides (move t i k a) (λ a'. not_decides (reply_decides i k a' b))))))
+      let d = holds_decides (move t i k a) (λ a'. Decides-not _ (reply_decides i k a' b)) in
+      (λ e. grind (arith, nat_tests), λ f. grind (arith, nat_tests))
 
   -- ---- the test p passes at each place where a rule could be broken
   abbrev pub everywhere : (Refusal → Bool) → Bool
@@ -170,8 +126,8 @@ module _ (t : FactoredTask) (r : Ranking) where
       let w = and_parts (breaks e) (clear_before e) h in
       record {
         broken = (breaks_decides e).0 w.0;
-        first = λ f l b. refutes
-            (and_decides (below_decides (turn f) (turn e)) (breaks_decides f))
+        first = λ f l b. not_from_Decides _
+            (Decides-and _ _ (below_decides (turn f) (turn e)) (breaks_decides f))
             (fails_at (λ g. below (turn g) (turn e) && breaks g) w.1 f b)
             (l, b);
       }
@@ -182,17 +138,12 @@ module _ (t : FactoredTask) (r : Ranking) where
 
   module _ (self : (i a : ℕ) → r i a a ≡ true) (e : clear ≡ true) where
     unbroken : (f : Refusal) → Broken t r f → ⊥
-    unbroken f b = refutes (breaks_decides f) (fails_at breaks e f b) b
+    unbroken f b = not_from_Decides _ (breaks_decides f) (fails_at breaks e f b) b
 
     pub simulation : Simulation t r
     simulation = record {
       self = λ i a hi ha. self i a;
-      chain = λ i a b c hi ha hb hc p q. elim (cases_eq a c) [
-        | inl s ↦ subst (λ (x : ℕ). r i a x ≡ true) s (self i a)
-        | inr n ↦ true_unless (r i a c) (λ u. unbroken (Chain i a c) (record { factor = hi; from = ha; to = hc; chain = (n, (b, hb, p, q)); unranked = u }))
-      ];
-      goal = λ i a b hi ha hb p g. true_unless (t.goal i b) (λ m.
-          unbroken (Goal i a b) (record { factor = hi; from = ha; to = hb; ranked = p; goal = g; miss = m }));
-      reply = λ i a b k a' hi ha hb hk p m. holds_unless (reply_decides i k a' b) (λ n.
-          unbroken (Reply i a b k) (record { factor = hi; from = ha; to = hb; known = hk; ranked = p; into = a'; moves = m; unanswered = n }));
+      chain = λ i a b c hi ha hb hc p q. let u = unbroken (Chain i a c) in let e = self i a in grind (arith, nat_tests);
+      goal = λ i a b hi ha hb p g. let u = unbroken (Goal i a b) in grind arith;
+      reply = λ i a b k a' hi ha hb hk p m. holds_unless (reply_decides i k a' b) (λ n. let u = unbroken (Reply i a b k) in grind arith);
     }
