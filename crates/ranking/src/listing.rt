@@ -5,7 +5,7 @@ ghost use Rattle.ranking.specs.RankingFile.{bytes_of, operands};
 
 use site::refusal::Fault;
 
-#[derive(Clone, Copy)]
+#[derive(Clone, Copy, Debug, PartialEq, Eq)]
 pub enum Listing {
     // `lower` stands under `upper`.
     Pair { factor: u8, lower: u8, upper: u8 },

@@ -51,6 +51,7 @@ impl Order {
                 facts: [false; FACTS],
             }; FACTS],
         };
+        // By number, since the number is what is listed.
         for fact in 0..FACTS as u8 {
             order.list(fact, fact);
         }

@@ -74,9 +74,6 @@ with_part d j f = record { factors = d.factors; labels = d.labels; declared = d.
 abbrev pub with_row : Factor → ℕ → Row → Factor
 with_row f x r = record { facts = f.facts; start = f.start; rows = set f.rows x r }
 
-pub led_goals : (f : Factor) (x : ℕ) (r : Row) → r.goal ≡ (row f x).goal → goals (with_row f x r) ≡ goals f
-led_goals f x r e = fun_ext (λ z. set_keeps (λ q. q.goal) f.rows x r past_row e z)
-
 led_move : (f : Factor) (l x y : ℕ) (r : Row) → x < length f.rows → targets r ≡ put l (Some y) (targets (row f x)) → (m z : ℕ)
     → entry (with_row f x r) m z ≡ put l (put x (Some y) (entry f l)) (entry f) m z
 led_move f l x y r h e m z = elim (cases_eq m l) [
@@ -115,9 +112,6 @@ marked d j x f h a b g e = same _ _ refl refl refl
 -- a label that keeps the first n facts of a factor
 abbrev pub keeps : Described → ℕ → ℕ → ℕ → Described
 keeps t j l n = leads j l (λ x. cond (ltb x n) (Some x) (t.moves j l x)) t
-
-pub keeps_none : (t : Described) (j l : ℕ) → t ≡ keeps t j l 0
-keeps_none t j l = same _ _ refl refl refl (λ _. refl) (λ _. refl) (λ _ _. refl) (λ _. refl) (λ i m z. grind (arith, nat_tests))
 
 pub keeps_more : (t : Described) (j l n : ℕ) → leads j l (put n (Some n) ((keeps t j l n).moves j l)) (keeps t j l n) ≡ keeps t j l (n + 1)
 keeps_more t j l n = same _ _ refl refl refl (λ _. refl) (λ _. refl) (λ _ _. refl) (λ _. refl) (λ i m z. grind (arith, nat_tests))

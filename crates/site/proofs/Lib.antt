@@ -6,4 +6,3 @@ pub mod Drafting
 pub mod Limiting
 mod Telling
 mod SiteReading
-mod Splitting

@@ -57,6 +57,8 @@ impl Command {
         }
     }
 
+    // A function for each letter: in one match each letter would have its own answer to missing operands.
+
     // What follows the letter T.
     fn sizes(bytes: &[u8]) -> Result<(Command, &[u8]), Fault>
         ensures { Took bytes_of 84 2 bytes.now result }

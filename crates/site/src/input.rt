@@ -9,10 +9,10 @@ fn split_front(input: &[u8]) -> (&[u8], &[u8])
     ensures rest { result.1.now ≡ (front input.now).1 }
 {
     let &[high, low, ref rest @ ..] = input else {
-        return (&input[0..0], &input[0..0]);
+        return (&[], &[]);
     };
     let length = (u16::from_be_bytes([high, low]) as usize).min(rest.len());
-    (&rest[0..length], &rest[length..])
+    (&rest[..length], &rest[length..])
 }
 
 // The site file and the ranking file of an input.
