@@ -1,9 +1,10 @@
 -- What an exchange of two numbers leaves of a heap's order. Assumes nothing.
-use Rattle.std.proofs.Common.{◌≡◌, ℕ, zero, suc, ◌+◌, ◌-◌, ◌*◌, ◌/◌, ◌<◌, ◌≤◌, Bool, true, false, ◌⊎◌, sym, ap, ◌∙◌, subst, subst₂, inl, inr, ⊎_elim, arith}
+use Rattle.std.proofs.Common.{◌≡◌, ℕ, zero, suc, ◌+◌, ◌-◌, ◌*◌, ◌/◌, ◌<◌, ◌≤◌, Bool, true, false, Option, ◌⊎◌, sym, ap, ◌∙◌, subst, subst₂, inl, inr, ⊎_elim, arith}
+use Rattle.std.specs.Bool.{then_some}
 use Rattle.std.specs.Cmp.{IsStrictWeakOrder}
 use Rattle.std.proofs.lemmas.List.Edits.{Swapped}
 use Rattle.std.proofs.lemmas.Bool.{cases_eq, cases_Bool}
-use Rattle.lists.specs.Heaps.{Heaped, Loose, High, Above, First}
+use Rattle.lists.specs.Heaps.{Heaped, Loose, High, Above, First, Downward}
 
 -- where only the top may stand too low, it can only stand too high
 pub high_top : (lt : ℕ → ℕ → Bool) (w : ℕ → ℕ) (n : ℕ) → Loose lt w n 0 → High lt w n 0
@@ -124,5 +125,7 @@ module _ (lt : ℕ → ℕ → Bool) (ranks : IsStrictWeakOrder lt) where
           (either_place i low e);
     }
 
-    pub none_before : (s : ℕ) → First lt w n c s → false ≡ lt (w s) (w c) → (i : ℕ) → 0 < i → i < n → (i - 1) / 2 ≡ c → lt (w i) (w c) ≡ false
-    none_before s fst h i low in' e = ranks.chain (w i) (w s) (w c) (fst.first i low in' e) (sym h)
+    -- the first of the places below, if its number comes before the one at c
+    pub downward : (s : ℕ) → First lt w n c s → (before : Bool) → before ≡ lt (w s) (w c) → (r : Option ℕ) → r ≡ then_some before s → Downward lt w n c r
+    downward s fst true h r e = subst (Downward lt w n c) (sym e) (fst, sym h)
+    downward s fst false h r e = subst (Downward lt w n c) (sym e) (λ i low in' q. ranks.chain (w i) (w s) (w c) (fst.first i low in' q) (sym h))

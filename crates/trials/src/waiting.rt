@@ -1,5 +1,5 @@
 // Both waiting lists side by side, on random rows of calls.
-use lists::heaps::OrderedHeap;
+use lists::heaps::{DistanceHeap, SearchHeap};
 use lists::keys::{DistanceKey, Key, SearchKey};
 use lists::row::Row;
 use lists::runs::{Answer, Request, serve};
@@ -95,30 +95,48 @@ impl Tally {
     }
 }
 
-// Makes random calls on a heap and a row, where `key` makes a key of a random number.
-fn try_lists<K: Key, F: Fn(u64) -> K>(
+// Makes random calls on two lists, where `key` makes a key of a random number.
+fn try_lists<K: Key, A: WaitingList<K>, B: WaitingList<K>, F: Fn(u64) -> K>(
     rt: &HostRuntime,
     name: &str,
     seed: u64,
+    one: &mut A,
+    other: &mut B,
     key: F,
 ) -> anyhow::Result<()>
     requires { F.IsAlwaysCallable key }
 {
-    let mut heap = OrderedHeap::new();
-    let mut row = Row::new();
     let mut tally = Tally { equal: 0, sum: 0 };
     let mut state = seed;
     for _ in 0..CALLS {
         state = next(state);
-        tally.note(same_answer(&mut heap, &mut row, request(state, key(state))));
+        tally.note(same_answer(one, other, request(state, key(state))));
     }
     tally.show(rt, name)
 }
 
 pub(crate) fn try_search_lists(rt: &HostRuntime) -> anyhow::Result<()> {
-    try_lists(rt, "heap and row by search keys", 1, search_key)
+    let mut heap = SearchHeap::new();
+    let mut row = Row::new();
+    try_lists(
+        rt,
+        "heap and row by search keys",
+        1,
+        &mut heap,
+        &mut row,
+        search_key,
+    )
 }
 
 pub(crate) fn try_distance_lists(rt: &HostRuntime) -> anyhow::Result<()> {
-    try_lists(rt, "heap and row by distance keys", 2, distance_key)
+    let mut heap = DistanceHeap::new();
+    let mut row = Row::new();
+    try_lists(
+        rt,
+        "heap and row by distance keys",
+        2,
+        &mut heap,
+        &mut row,
+        distance_key,
+    )
 }

@@ -13,15 +13,7 @@ fn comes_first<K: Key>(x: Option<K>, y: Option<K>, lower: bool) -> bool
     ensures { result ≡ ahead K.Key.sooner x y lower }
 {
     match (x, y) {
-        (Some(x), Some(y)) => {
-            if x.precedes(&y) {
-                true
-            } else if y.precedes(&x) {
-                false
-            } else {
-                lower
-            }
-        }
+        (Some(x), Some(y)) => x.precedes(&y) || (!y.precedes(&x) && lower),
         (Some(_), None) => true,
         (None, Some(_)) => false,
         (None, None) => lower,
@@ -63,14 +55,8 @@ impl<K: Key> Heap<K> {
         requires { at < capacity_limit }
         ensures { Upward (heap_earlier K.Key.sooner self.now) (heap_order self.now) at result }
     {
-        if at == 0 {
-            return None;
-        }
-        let parent = (at - 1) / 2;
-        if self.before(at, parent) {
-            return Some(parent);
-        }
-        None
+        let parent = at.checked_sub(1)? / 2;
+        self.before(at, parent).then_some(parent)
     }
 
     // Moves the number at a place up for as long as it comes before the one above, and says where it then stands.
@@ -115,10 +101,7 @@ impl<K: Key> Heap<K> {
         ensures { Downward (heap_earlier K.Key.sooner self.now) (heap_order self.now) self.now.count at result }
     {
         let child = self.first_below(at)?;
-        if self.before(child, at) {
-            return Some(child);
-        }
-        None
+        self.before(child, at).then_some(child)
     }
 
     // Moves the number at a place down for as long as one below comes before it.
