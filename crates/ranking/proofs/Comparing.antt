@@ -1,14 +1,12 @@
 -- One state under another, by the arrays that stand for them. Assumes nothing.
-use Rattle.std.proofs.Common.{◌≡◌, ℕ, zero, suc, ◌<◌, ◌≤◌, Bool, true, false, List, length, get_or, sym, ap, ◌∙◌, subst, ap₂, inl, inr, arith}
-use Rattle.std.proofs.lemmas.List.{get_or_past, get_or-take}
+use Rattle.std.proofs.Common.{◌≡◌, ℕ, zero, suc, ◌<◌, Bool, true, false, get_or, sym, ◌∙◌, subst, ap₂, inl, inr, arith}
+use Rattle.std.specs.Bool.{MatchBool}
+use Rattle.std.proofs.lemmas.List.{get_or-take}
 use Rattle.std.proofs.lemmas.Bool.{cases_eq, and_left, and_right}
 use Rattle.task.specs.Meaning.{meaning, state_of}
 use Rattle.task.specs.declared.task.Task.{Task}
 use Rattle.task.specs.declared.state.State.{State}
 use Rattle.ranking.specs.Ranking.{Ranking, every, under}
-use Rattle.ranking.specs.Tables.{above, order, rank}
-use Rattle.ranking.specs.declared.order.Above.{Above}
-use Rattle.ranking.specs.declared.order.Order.{Order}
 use Rattle.ranking.proofs.Dominating.{each_every}
 
 every_false : (p : ℕ → Bool) (n k : ℕ) → k < n → p k ≡ false → every p n ≡ false
@@ -23,18 +21,8 @@ module _ (t : Task) (r : Ranking) (s u : State) where
   at_state : (k : ℕ) → k < t.factors → r k (get_or (state_of t s) k 0) (get_or (state_of t u) k 0) ≡ r k (get_or s.facts k 0) (get_or u.facts k 0)
   at_state k h = ap₂ (r k) (get_or-take t.factors s.facts k 0 h) (get_or-take t.factors u.facts k 0 h)
 
-  pub under_true : ((k : ℕ) → k < t.factors → r k (get_or s.facts k 0) (get_or u.facts k 0) ≡ true) → true ≡ under (meaning t) r (state_of t s) (state_of t u)
-  under_true h = sym (each_every _ t.factors (λ k l. at_state k l ∙ h k l))
-
-  pub under_false : (k : ℕ) → k < t.factors → r k (get_or s.facts k 0) (get_or u.facts k 0) ≡ false → false ≡ under (meaning t) r (state_of t s) (state_of t u)
-  under_false k l e = sym (every_false _ t.factors k l (at_state k l ∙ e))
-
--- past the tables nothing stands under anything
-pub above_past : (r : Above) (b : ℕ) → length r.facts ≤ b → false ≡ above r b
-above_past r b h = sym (get_or_past r.facts b false h)
-
-pub order_past : (o : Order) (a b : ℕ) → length o.rows ≤ a → false ≡ order o a b
-order_past o a b h = sym (ap (λ (r : Above). above r b) (get_or_past o.rows a _ h))
-
-pub rank_past : (parts : List Order) (j a b : ℕ) → length parts ≤ j → false ≡ rank parts j a b
-rank_past parts j a b h = sym (ap (λ (o : Order). order o a b) (get_or_past parts j _ h))
+  -- each fact stands under the other's, or one does not
+  pub under_by : (b : Bool) → MatchBool b ((k : ℕ) → k < t.factors → r k (get_or s.facts k 0) (get_or u.facts k 0) ≡ true) ((k : ℕ) × (k < t.factors) × (r k (get_or s.facts k 0) (get_or u.facts k 0) ≡ false))
+      → b ≡ under (meaning t) r (state_of t s) (state_of t u)
+  under_by true h = sym (each_every _ t.factors (λ k l. at_state k l ∙ h k l))
+  under_by false h = sym (every_false _ t.factors h.0 h.1 (at_state h.0 h.1 ∙ h.2))

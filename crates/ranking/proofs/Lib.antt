@@ -1,6 +1,7 @@
 pub mod Dominating
 mod Serving
 mod Replying
+mod Ranges
 mod Rising
 pub mod Judging
 mod Linking

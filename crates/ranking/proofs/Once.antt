@@ -1,5 +1,5 @@
 -- One judgement fits a site file and a ranking file.
-use Rattle.std.proofs.Common.{◌≡◌, ℕ, ◌<◌, cond, eqb, ◌⊎◌, List, [], ◌∷◌, ◌++◌, length, get_or, drop, Some, Option, sym, refl, ap, ◌∙◌, subst, inl, inr, arith}
+use Rattle.std.proofs.Common.{◌≡◌, ℕ, ◌<◌, cond, eqb, ◌⊎◌, List, [], ◌∷◌, ◌++◌, length, get_or, drop, Some, Err, Option, sym, refl, ap, ◌∙◌, subst, inl, inr, arith}
 use Rattle.std.proofs.lemmas.Bool.{both_ways, cases_order}
 use Rattle.std.proofs.lemmas.Bool.Decides.{same_from_decides}
 use Rattle.task.specs.Task.{FactoredTask, move}
@@ -15,11 +15,10 @@ use Rattle.ranking.specs.Ranking.{Ranking, Serves, Simulation}
 use Rattle.ranking.specs.Ranking as ranking
 use Rattle.ranking.specs.RankingFile.{bytes_of, operands, ranking_file, Lists}
 use Rattle.ranking.specs.Verdict.{Broken, Below, turn, FirstBroken}
-use Rattle.ranking.specs.Judging.{Offered, Unfit, misread, broken, Fit, Judged, site_refused, site_alone, ranking_refused, ranking_fit}
+use Rattle.ranking.specs.Judging.{Judgement, Offered, Unfit, misread, broken, Fit, Judged, site_refused, site_alone, ranking_refused, ranking_fit}
 use Rattle.ranking.specs.declared.listing.Listing.{Listing}
 use Rattle.ranking.specs.declared.listing.Listing.TheVariants.{Pair, End}
-use Rattle.ranking.specs.declared.judge.Judgement.{Judgement}
-use Rattle.ranking.specs.declared.judge.Judgement.TheVariants.{SiteRefused, RankingRefused}
+use Rattle.ranking.specs.declared.judge.Rejection.TheVariants as rejection
 
 -- ---- the ranking file
 -- the command in front of some bytes, and the bytes after it
@@ -184,7 +183,7 @@ module _ (site : List ℕ) where
 
   -- one judgement fits
   pub judged_once : (ranking : Option (List ℕ)) (j k : Judgement) → Judged site ranking j → Judged site ranking k → j ≡ k
-  judged_once ranking j k (site_refused r) (site_refused s) = ap SiteRefused (rejected_once site_file site_way site _ _ r s)
+  judged_once ranking j k (site_refused r) (site_refused s) = ap (λ e. Err (rejection.Site e)) (rejected_once site_file site_way site _ _ r s)
   judged_once ranking j k (site_refused r) (site_alone b) = refused_not _ b r
   judged_once ranking j k (site_refused r) (ranking_refused b u) = refused_not _ b r
   judged_once ranking j k (site_refused r) (ranking_fit b f) = refused_not _ b r
@@ -192,7 +191,7 @@ module _ (site : List ℕ) where
   judged_once ranking j k (site_alone a) (site_alone b) = refl
   judged_once ranking j k (ranking_refused a u) (site_refused s) = refused_not _ a s
   judged_once ranking j k (ranking_refused {bytes = bytes} a u) (ranking_refused {e = f} b v) =
-      ap RankingRefused (unfit_once (task_of a) (closed a) bytes _ _ u (subst (λ t. Unfit t bytes f) (task_once b a) v))
+      ap (λ e. Err (rejection.Ranking e)) (unfit_once (task_of a) (closed a) bytes _ _ u (subst (λ t. Unfit t bytes f) (task_once b a) v))
   judged_once ranking j k (ranking_refused {bytes = bytes} a u) (ranking_fit b f) =
       absurd (fit_unfit (task_of a) (closed a) bytes _ (subst (λ t. Fit t bytes) (task_once b a) f) u)
   judged_once ranking j k (ranking_fit a f) (site_refused s) = refused_not _ a s

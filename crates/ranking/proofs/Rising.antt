@@ -1,15 +1,54 @@
--- The first fault over a number and the rest of a place, from the first over the rest at each number.
-use Rattle.std.proofs.Common.{ℕ, ◌<◌, Err, sym, subst, inl, inr}
-use Rattle.ranking.specs.First.{Then, FirstBy}
+-- From what is answered of each two facts of a factor to what is answered of a rule.
+use Rattle.std.proofs.Common.{◌≡◌, ℕ, ◌<◌, ◌⊎◌, Ok, Err, Result, inl, inr}
+use Rattle.task.specs.Task.{FactoredTask}
+use Rattle.ranking.specs.Ranking.{Ranking}
+use Rattle.ranking.specs.First.{Then, Chains, Goals, Replies, Inside, FirstError, all_well, fails, ChainAt, GoalAt, ReplyAt}
 use Rattle.site.specs.declared.refusal.Refusal.{Refusal}
 
-pub err_up : {X : Type 0} (R : X → X → Type 0) (Holds Fault : ℕ → X → Type 0) (report : ℕ → X → Refusal) (i : ℕ) (e : Refusal)
-    → ((k : ℕ) → k < i → (x : X) → Holds k x)
-    → FirstBy R (Holds i) (Fault i) (report i) (Err e)
-    → FirstBy (Then R) (λ p. Holds p.0 p.1) (λ p. Fault p.0 p.1) (λ p. report p.0 p.1) (Err e)
-err_up R Holds Fault report i e below w = (
-  (i, w.0),
-  w.1,
-  w.2,
-  λ y b. elim b [ inl h ↦ below y.0 h y.1 | inr q ↦ subst (λ k. Holds k y.1) (sym q.0) (w.3 y.1 q.1) ],
-)
+module _ (t : FactoredTask) (Answers : ℕ → ℕ → ℕ → Result Unit Refusal → Type 0) where
+  -- the error of one place, where each before it is well
+  pub first_error : (i a b : ℕ) (e : Refusal) → Inside t i a b → Answers i a b (Err e)
+      → ((j : ℕ) → j < i → (x y : ℕ) → Inside t j x y → Answers j x y (Ok tt))
+      → ((x : ℕ) → x < a → (y : ℕ) → Inside t i x y → Answers i x y (Ok tt))
+      → ((y : ℕ) → y < b → Inside t i a y → Answers i a y (Ok tt))
+      → FirstError t Answers (Err e)
+  first_error i a b e inside answer factors from to = fails i a b inside answer before
+    where
+      before : (j x y : ℕ) → Then (Then ◌<◌) (j, (x, y)) (i, (a, b)) → Inside t j x y → Answers j x y (Ok tt)
+      before j x y (inl h) in' = factors j h x y in'
+      before j x y (inr (same, inl h)) in' = rw same (from x h y (rw same at in'))
+      before j x y (inr (same, inr (also, h))) in' = rw same (rw also (to y h (rw also at (rw same at in'))))
+
+  module _ (r : Ranking) where
+    pub chains_first : (o : Result Unit Refusal) → FirstError t Answers o → ((i a b : ℕ) (o : Result Unit Refusal) → Answers i a b o → ChainAt t r i a b o) → Chains t r o
+    chains_first (Ok tt) (all_well all) at = λ p hi ha hb. at p.0 p.1.0 p.1.1 (Ok tt) (all p.0 p.1.0 p.1.1 (hi, ha, hb)) hi ha hb
+    chains_first (Err e) (fails i a b inside answer before) at =
+        let f = at i a b (Err e) answer in
+        ((i, (a, b)), f.0, f.1 inside, λ q less hi ha hb. at q.0 q.1.0 q.1.1 (Ok tt) (before q.0 q.1.0 q.1.1 less (hi, ha, hb)) hi ha hb)
+
+    pub goals_first : (o : Result Unit Refusal) → FirstError t Answers o → ((i a b : ℕ) (o : Result Unit Refusal) → Answers i a b o → GoalAt t r i a b o) → Goals t r o
+    goals_first (Ok tt) (all_well all) at = λ p hi ha hb. at p.0 p.1.0 p.1.1 (Ok tt) (all p.0 p.1.0 p.1.1 (hi, ha, hb)) hi ha hb
+    goals_first (Err e) (fails i a b inside answer before) at =
+        let f = at i a b (Err e) answer in
+        ((i, (a, b)), f.0, f.1 inside, λ q less hi ha hb. at q.0 q.1.0 q.1.1 (Ok tt) (before q.0 q.1.0 q.1.1 less (hi, ha, hb)) hi ha hb)
+
+    -- with a label besides, a place comes before another by its facts, or they are the same and its label comes before
+    split : (i a b k i' a' b' k' : ℕ) → Then (Then (Then ◌<◌)) (i, (a, (b, k))) (i', (a', (b', k')))
+        → Then (Then ◌<◌) (i, (a, b)) (i', (a', b')) ⊎ ((i ≡ i') × (a ≡ a') × (b ≡ b') × (k < k'))
+    split i a b k i' a' b' k' (inl h) = inl (inl h)
+    split i a b k i' a' b' k' (inr (p, inl h)) = inl (inr (p, inl h))
+    split i a b k i' a' b' k' (inr (p, inr (q, inl h))) = inl (inr (p, inr (q, h)))
+    split i a b k i' a' b' k' (inr (p, inr (q, inr (s, h)))) = inr (p, q, s, h)
+
+    pub replies_first : (o : Result Unit Refusal) → FirstError t Answers o → ((i a b : ℕ) (o : Result Unit Refusal) → Answers i a b o → ReplyAt t r i a b o) → Replies t r o
+    replies_first (Ok tt) (all_well all) at = λ p hi ha hb. at p.0 p.1.0 p.1.1.0 (Ok tt) (all p.0 p.1.0 p.1.1.0 (hi, ha, hb)) p.1.1.1 hi ha hb
+    replies_first (Err e) (fails i a b inside answer before) at =
+        let f = at i a b (Err e) answer in (
+          (i, (a, (b, f.0))),
+          f.1,
+          f.2 inside,
+          λ q less. elim (split q.0 q.1.0 q.1.1.0 q.1.1.1 i a b f.0 less) [
+            | inl l ↦ λ hi ha hb. at q.0 q.1.0 q.1.1.0 (Ok tt) (before q.0 q.1.0 q.1.1.0 l (hi, ha, hb)) q.1.1.1 hi ha hb
+            | inr s ↦ rw (s.0, s.1, s.2) (f.3 q.1.1.1 s.3)
+          ],
+        )

@@ -6,6 +6,8 @@ use Rattle.task.specs.declared.row.Row.{Row}
 use Rattle.task.specs.Limits.{fact_limit}
 use Rattle.task.proofs.Moving.{lands}
 use Rattle.task.specs.Task.{FactoredTask, move}
+use Rattle.std.specs.Bool.{MatchBool}
+use Rattle.ranking.specs.Finding.{ServesBeside}
 use Rattle.ranking.specs.Ranking.{Ranking, Serves}
 use Rattle.task.specs.Tables.{part, row, target}
 use Rattle.task.specs.Meaning.{meaning}
@@ -56,3 +58,10 @@ pub goal_seen : (t : Task) (j x : ℕ) (b : Bool) → x < (part t.parts j).facts
     → (get_or (take ((part t.parts j).facts - 0) (part t.parts j).rows) x (record { goal = false; next = [] })).goal ≡ b
     → (meaning t).goal j x ≡ b
 goal_seen t j x b h e = sym (ap (λ (r : Row). r.goal) (row_at t j x h)) ∙ e
+
+-- in each other factor a label serves, or in one it does not
+pub beside_by : (t : FactoredTask) (r : Ranking) (i k m : ℕ) (b : Bool)
+    → MatchBool b ((j : ℕ) → j < t.factors → (j ≡ i → ⊥) → Serves t r j k m) ((j : ℕ) × (j < t.factors) × ((j ≡ i → ⊥) × (Serves t r j k m → ⊥)))
+    → Decides b (ServesBeside t r i k m)
+beside_by t r i k m true w = (λ _. w, λ _. refl)
+beside_by t r i k m false w = (λ p. absurd (clash p), λ all. absurd (w.2.1 (all w.0 w.1 w.2.0)))

@@ -15,36 +15,12 @@ abbrev pub FirstBy : {X : Type 0} → (X → X → Type 0) → (X → Type 0) �
 FirstBy {X} R Holds Fault report (Ok _) = (x : X) → Holds x
 FirstBy {X} R Holds Fault report (Err e) = (x : X) × (e ≡ report x) × Fault x × ((y : X) → R y x → Holds y)
 
--- the chain rule from one fact of a factor, in one factor, and in all
-abbrev pub ChainsFrom : FactoredTask → Ranking → ℕ → ℕ → Result Unit Refusal → Type 0
-ChainsFrom t r i a = FirstBy ◌<◌ (λ b. ChainHolds t r i a b) (λ b. ChainFault t r i a b) (λ b. Chain i a b)
-
-abbrev pub ChainsIn : FactoredTask → Ranking → ℕ → Result Unit Refusal → Type 0
-ChainsIn t r i = FirstBy (Then ◌<◌) (λ p. ChainHolds t r i p.0 p.1) (λ p. ChainFault t r i p.0 p.1) (λ p. Chain i p.0 p.1)
-
+-- the three rules in all factors
 abbrev pub Chains : FactoredTask → Ranking → Result Unit Refusal → Type 0
 Chains t r = FirstBy (Then (Then ◌<◌)) (λ p. ChainHolds t r p.0 p.1.0 p.1.1) (λ p. ChainFault t r p.0 p.1.0 p.1.1) (λ p. Chain p.0 p.1.0 p.1.1)
 
--- the goal rule
-abbrev pub GoalsFrom : FactoredTask → Ranking → ℕ → ℕ → Result Unit Refusal → Type 0
-GoalsFrom t r i a = FirstBy ◌<◌ (λ b. GoalHolds t r i a b) (λ b. GoalFault t r i a b) (λ b. Goal i a b)
-
-abbrev pub GoalsIn : FactoredTask → Ranking → ℕ → Result Unit Refusal → Type 0
-GoalsIn t r i = FirstBy (Then ◌<◌) (λ p. GoalHolds t r i p.0 p.1) (λ p. GoalFault t r i p.0 p.1) (λ p. Goal i p.0 p.1)
-
 abbrev pub Goals : FactoredTask → Ranking → Result Unit Refusal → Type 0
 Goals t r = FirstBy (Then (Then ◌<◌)) (λ p. GoalHolds t r p.0 p.1.0 p.1.1) (λ p. GoalFault t r p.0 p.1.0 p.1.1) (λ p. Goal p.0 p.1.0 p.1.1)
-
--- the reply rule, at one pair of facts too
-abbrev pub RepliesAt : FactoredTask → Ranking → ℕ → ℕ → ℕ → Result Unit Refusal → Type 0
-RepliesAt t r i a b = FirstBy ◌<◌ (λ k. ReplyHolds t r i a b k) (λ k. ReplyFault t r i a b k) (λ k. Reply i a b k)
-
-abbrev pub RepliesFrom : FactoredTask → Ranking → ℕ → ℕ → Result Unit Refusal → Type 0
-RepliesFrom t r i a = FirstBy (Then ◌<◌) (λ p. ReplyHolds t r i a p.0 p.1) (λ p. ReplyFault t r i a p.0 p.1) (λ p. Reply i a p.0 p.1)
-
-abbrev pub RepliesIn : FactoredTask → Ranking → ℕ → Result Unit Refusal → Type 0
-RepliesIn t r i =
-    FirstBy (Then (Then ◌<◌)) (λ p. ReplyHolds t r i p.0 p.1.0 p.1.1) (λ p. ReplyFault t r i p.0 p.1.0 p.1.1) (λ p. Reply i p.0 p.1.0 p.1.1)
 
 abbrev pub Replies : FactoredTask → Ranking → Result Unit Refusal → Type 0
 Replies t r =
@@ -53,3 +29,26 @@ Replies t r =
     (λ p. ReplyHolds t r p.0 p.1.0 p.1.1.0 p.1.1.1)
     (λ p. ReplyFault t r p.0 p.1.0 p.1.1.0 p.1.1.1)
     (λ p. Reply p.0 p.1.0 p.1.1.0 p.1.1.1)
+
+-- a factor and two of its facts
+abbrev pub Inside : FactoredTask → ℕ → ℕ → ℕ → Type 0
+Inside t i a b = (i < t.factors) × (a < t.facts i) × (b < t.facts i)
+
+-- Where `Answers` says what can be answered of a factor and two of its facts: of each, that all is well; or of one this
+-- error, and of each before it that all is well.
+pub data FirstError (t : FactoredTask) (Answers : ℕ → ℕ → ℕ → Result Unit Refusal → Type 0) : Result Unit Refusal → Type 0 where
+  all_well : ((i a b : ℕ) → Inside t i a b → Answers i a b (Ok tt)) → FirstError t Answers (Ok tt)
+  fails : {e : Refusal} (i a b : ℕ) → Inside t i a b → Answers i a b (Err e)
+      → ((j x y : ℕ) → Then (Then ◌<◌) (j, (x, y)) (i, (a, b)) → Inside t j x y → Answers j x y (Ok tt)) → FirstError t Answers (Err e)
+
+-- the three rules at two facts of a factor
+abbrev pub ChainAt : FactoredTask → Ranking → ℕ → ℕ → ℕ → Result Unit Refusal → Type 0
+ChainAt t r i a b (Ok _) = ChainHolds t r i a b
+ChainAt t r i a b (Err e) = (e ≡ Chain i a b) × (Inside t i a b → ChainFault t r i a b)
+
+abbrev pub GoalAt : FactoredTask → Ranking → ℕ → ℕ → ℕ → Result Unit Refusal → Type 0
+GoalAt t r i a b (Ok _) = GoalHolds t r i a b
+GoalAt t r i a b (Err e) = (e ≡ Goal i a b) × (Inside t i a b → GoalFault t r i a b)
+
+abbrev pub ReplyAt : FactoredTask → Ranking → ℕ → ℕ → ℕ → Result Unit Refusal → Type 0
+ReplyAt t r i a b = FirstBy ◌<◌ (λ k. ReplyHolds t r i a b k) (λ k. Inside t i a b → ReplyFault t r i a b k) (λ k. Reply i a b k)

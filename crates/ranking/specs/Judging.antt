@@ -8,8 +8,8 @@ use Rattle.site.specs.declared.refusal.Refusal.{Refusal}
 use Rattle.ranking.specs.Ranking.{Ranking, Simulation, Dominates}
 use Rattle.ranking.specs.RankingFile.{ranking_file, Lists}
 use Rattle.ranking.specs.Verdict.{FirstBroken}
-use Rattle.ranking.specs.declared.judge.Judgement.{Judgement}
-use Rattle.ranking.specs.declared.judge.Judgement.TheVariants.{Accepted as accepted, SiteRefused, RankingRefused}
+use Rattle.ranking.specs.declared.judge.Rejection.{Rejection}
+use Rattle.ranking.specs.declared.judge.Rejection.TheVariants as rejection
 
 -- a ranking file that is accepted for a task, and the relation that it lists
 pub record Offered (t : FactoredTask) (bytes : List ℕ) : Type 0 where
@@ -27,12 +27,16 @@ pub record Fit (t : FactoredTask) (bytes : List ℕ) : Type 0 where
   pub offered : Offered t bytes
   pub simulation : Simulation t offered.relation
 
+-- what is offered is accepted, or one of the files is refused
+abbrev pub Judgement : Type 0
+Judgement = Result Unit Rejection
+
 -- The site file is read first, and then the ranking, if one is offered.
 pub data Judged (site : List ℕ) : Option (List ℕ) → Judgement → Type 0 where
-  site_refused : {ranking : Option (List ℕ)} {e : Refusal} → Rejected site_file site e → Judged site ranking (SiteRefused e)
-  site_alone : Accepted site_file site → Judged site None accepted
-  ranking_refused : {bytes : List ℕ} {e : Refusal} (a : Accepted site_file site) → Unfit (task_of a) bytes e → Judged site (Some bytes) (RankingRefused e)
-  ranking_fit : {bytes : List ℕ} (a : Accepted site_file site) → Fit (task_of a) bytes → Judged site (Some bytes) accepted
+  site_refused : {ranking : Option (List ℕ)} {e : Refusal} → Rejected site_file site e → Judged site ranking (Err (rejection.Site e))
+  site_alone : Accepted site_file site → Judged site None (Ok tt)
+  ranking_refused : {bytes : List ℕ} {e : Refusal} (a : Accepted site_file site) → Unfit (task_of a) bytes e → Judged site (Some bytes) (Err (rejection.Ranking e))
+  ranking_fit : {bytes : List ℕ} (a : Accepted site_file site) → Fit (task_of a) bytes → Judged site (Some bytes) (Ok tt)
 
 -- no other judgement fits
 abbrev pub Only : List ℕ → Option (List ℕ) → Judgement → Type 0
@@ -46,6 +50,5 @@ RankingJudged t bytes (Err e) = Unfit t bytes e
 -- What a judgement is good for: of an accepted ranking, whatever is done from a state can be done, at no higher cost, from
 -- any state that it is under.
 abbrev pub Reliable : List ℕ → List ℕ → Judgement → Type 0
-Reliable site ranking (SiteRefused e) = Unit {0}
-Reliable site ranking (RankingRefused e) = Unit {0}
-Reliable site ranking accepted = (a : Accepted site_file site) × (f : Fit (task_of a) ranking) × Dominates (task_of a) f.offered.relation
+Reliable site ranking (Err e) = Unit {0}
+Reliable site ranking (Ok _) = (a : Accepted site_file site) × (f : Fit (task_of a) ranking) × Dominates (task_of a) f.offered.relation

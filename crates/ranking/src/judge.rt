@@ -8,13 +8,15 @@ use site::read::read_site;
 use site::refusal::Refusal;
 use task::task::Task;
 
+// Which of two files is refused, and why.
 #[derive(Clone, Copy)]
-pub enum Judgement {
-    // The site file describes a task, and the ranking, if one was offered, may be relied on for it.
-    Accepted,
-    SiteRefused(Refusal),
-    RankingRefused(Refusal),
+pub enum Rejection {
+    Site(Refusal),
+    Ranking(Refusal),
 }
+
+// The site file describes a task, and the ranking, if one was offered, may be relied on for it; or one of them is refused.
+pub type Judgement = Result<(), Rejection>;
 
 fn judge_ranking(task: &Task, bytes: &[u8]) -> Result<(), Refusal>
     ensures { RankingJudged (meaning task.now) bytes.now result }
@@ -28,10 +30,8 @@ pub fn judge_site(site: &[u8]) -> Judgement
     ensures verdict { Judged site.now None result }
     ensures only { Only site.now None result }
 {
-    match read_site(site) {
-        Ok(_) => Judgement::Accepted,
-        Err(refusal) => Judgement::SiteRefused(refusal),
-    }
+    read_site(site).map_err(Rejection::Site)?;
+    Ok(())
 }
 
 // What is to be said of a site file and of a ranking for it.
@@ -40,12 +40,6 @@ pub fn judge(site: &[u8], ranking: &[u8]) -> Judgement
     ensures only { Only site.now (Some ranking.now) result }
     ensures reliable { Reliable site.now ranking.now result }
 {
-    let task = match read_site(site) {
-        Ok(task) => task,
-        Err(refusal) => return Judgement::SiteRefused(refusal),
-    };
-    match judge_ranking(&task, ranking) {
-        Ok(()) => Judgement::Accepted,
-        Err(refusal) => Judgement::RankingRefused(refusal),
-    }
+    let task = read_site(site).map_err(Rejection::Site)?;
+    judge_ranking(&task, ranking).map_err(Rejection::Ranking)
 }

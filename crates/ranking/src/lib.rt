@@ -12,3 +12,4 @@ pub mod order;
 mod read;
 mod replies;
 mod serves;
+mod wanted;

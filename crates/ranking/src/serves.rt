@@ -1,28 +1,26 @@
 // How the labels of a task serve for one another under a ranking.
-ghost use Rattle.std.specs.Prelude.{◌≡◌, ℕ, ◌<◌, ◌≤◌, Decides};
+ghost use Rattle.std.specs.Prelude.{ℕ, ◌<◌, Decides};
 ghost use Rattle.ranking.specs.Ranking.{Serves};
 ghost use Rattle.task.specs.Meaning.{meaning};
 ghost use Rattle.ranking.specs.Meaning.{relation};
 
-use crate::order::Ranking;
-use task::task::Task;
+use crate::check::Check;
 
-// Whether, in this factor, `other` does at each fact at least as well as `label`.
-pub(crate) fn serves(task: &Task, ranking: &Ranking, factor: u8, label: u8, other: u8) -> bool
-    requires factor { factor < task.now.factors }
-    requires label { label ≤ task.now.labels }
-    requires other { other ≤ task.now.labels }
-    ensures { Decides result (Serves (meaning task.now) (relation ranking.now) factor label other) }
-{
-    let part = &task.parts[factor as usize];
-    let above = &ranking.parts[factor as usize].rows;
-    for (x, row) in part.rows[0..part.facts as usize].iter().enumerate() {
-        if let Some(y) = row.target(label, x as u8) {
-            match row.target(other, x as u8) {
-                Some(z) if above[y as usize].facts[z as usize] => {}
-                _ => return false,
+impl Check<'_> {
+    // Whether, in this factor, `other` does at each fact at least as well as `label`.
+    pub(crate) fn serves(&self, factor: u8, label: u8, other: u8) -> bool
+        requires { factor < self.now.task.now.factors }
+        ensures { Decides result (Serves (meaning self.now.task.now) (relation self.now.ranking.now) factor label other) }
+    {
+        let part = &self.task.parts[factor as usize];
+        for (x, row) in part.rows[0..part.facts as usize].iter().enumerate() {
+            if let Some(y) = row.target(label, x as u8) {
+                match row.target(other, x as u8) {
+                    Some(z) if self.ranking.ranks(factor, y, z) => {}
+                    _ => return false,
+                }
             }
         }
+        true
     }
-    true
 }

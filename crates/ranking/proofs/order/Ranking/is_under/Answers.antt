@@ -1,12 +1,18 @@
-use Rattle.std.proofs.Common.{sym, arith}
+use Rattle.std.proofs.Common.{◌≡◌, true, false, get_or, refl, arith, rules}
+use borrow.Author.Tests.{tests}
+use Rattle.std.proofs.lemmas.Iterator.{cases_from_all, YieldsList-from_range}
 use Rattle.ranking.specs.Meaning.{relation}
-use Rattle.ranking.proofs.Comparing.{under_true, under_false}
+use Rattle.ranking.proofs.Comparing.{under_by}
+use Rattle.ranking.proofs.Ranges.{all_below}
 use Rattle.ranking.proofs.order.Ranking.is_under.Goals as goal
-
-pub returns-then-not-ranks : goal.returns-then-not-ranks
-returns-then-not-ranks c =
-    under_false c.args.task.now (relation c.args.self.now) c.args.s.now c.args.u.now c.loop-j.j (omega arith) (sym c.if-not-ranks.ensures)
 
 pub returns : goal.returns
 returns c =
-    under_true c.args.task.now (relation c.args.self.now) c.args.s.now c.args.u.now (λ k h. c.loop-j.invariant k (omega arith))
+    let t = c.args.task.now in
+    let r = relation c.args.self.now in
+    let s = c.args.s.now in
+    let u = c.args.u.now in
+    under_by t r s u c.all.result
+    (all_below (λ k. r k (get_or s.facts k 0) (get_or u.facts k 0) ≡ true) (λ k. r k (get_or s.facts k 0) (get_or u.facts k 0) ≡ false) t.factors c.all.result
+    (cases_from_all _ _ _ (λ k. r k (get_or s.facts k 0) (get_or u.facts k 0) ≡ true) (λ k. r k (get_or s.facts k 0) (get_or u.facts k 0) ≡ false) c.all.ensures.ran (YieldsList-from_range 0 t.factors t.factors refl (omega arith))
+    (λ x q k. search (rules, tests)) (λ x q k. search (rules, tests))))

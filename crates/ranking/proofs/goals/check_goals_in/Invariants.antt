@@ -1,8 +1,0 @@
-use Rattle.std.proofs.Common.{ℕ, ◌<◌}
-use Rattle.ranking.specs.Rules.{GoalHolds}
-use Rattle.task.specs.Meaning.{meaning}
-use Rattle.ranking.specs.Meaning.{relation}
-use Rattle.ranking.proofs.goals.check_goals_in.Given as goal
-
-abbrev pub invariant-loop-a : goal.invariant-loop-a
-invariant-loop-a l = (a : ℕ) → a < l.a → (b : ℕ) → GoalHolds (meaning l.task) (relation l.ranking) l.factor a b

@@ -1,8 +1,0 @@
-use Rattle.std.proofs.Common.{ℕ, ◌<◌}
-use Rattle.ranking.specs.Rules.{ReplyHolds}
-use Rattle.task.specs.Meaning.{meaning}
-use Rattle.ranking.specs.Meaning.{relation}
-use Rattle.ranking.proofs.replies.check_replies_at.Given as goal
-
-abbrev pub invariant-loop-label : goal.invariant-loop-label
-invariant-loop-label l = (k : ℕ) → k < l.label → ReplyHolds (meaning l.task) (relation l.ranking) l.factor l.a l.b k

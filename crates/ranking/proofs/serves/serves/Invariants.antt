@@ -1,8 +1,0 @@
-use Rattle.std.proofs.Common.{ℕ, ◌<◌}
-use Rattle.task.specs.Meaning.{meaning}
-use Rattle.ranking.specs.Meaning.{relation}
-use Rattle.ranking.proofs.Serving.{At}
-use Rattle.ranking.proofs.serves.serves.Given as goal
-
-abbrev pub invariant-loop-x : goal.invariant-loop-x
-invariant-loop-x l = (x : ℕ) → x < l.x → At (meaning l.task) (relation l.ranking) l.factor l.label l.other x
