@@ -1,16 +1,16 @@
 -- The line of a judgement, and how the place of a refusal is told. Assumes nothing.
-use Rattle.std.specs.Prelude.{ℕ, List, ◌++◌, codes, decimal}
+use Rattle.std.specs.Prelude.{ℕ, List, ◌++◌, Ok, Err, codes, decimal}
 use Rattle.site.specs.Reports.{report_of}
 use Rattle.site.specs.Words.{report_text}
 use Rattle.site.specs.declared.refusal.Refusal.{Refusal}
 use Rattle.site.specs.declared.refusal.Refusal.TheVariants.{File, Chain, Goal, Reply}
-use Rattle.ranking.specs.declared.judge.Judgement.{Judgement}
-use Rattle.ranking.specs.declared.judge.Judgement.TheVariants.{Accepted, SiteRefused, RankingRefused}
+use Rattle.ranking.specs.Judging.{Judgement}
+use Rattle.ranking.specs.declared.judge.Rejection.TheVariants.{Site, Ranking}
 
 abbrev pub line_text : Judgement → List ℕ
-line_text Accepted = codes "accepted"
-line_text (SiteRefused e) = report_text (report_of e)
-line_text (RankingRefused e) = report_text (report_of e)
+line_text (Ok _) = codes "accepted"
+line_text (Err (Site e)) = report_text (report_of e)
+line_text (Err (Ranking e)) = report_text (report_of e)
 
 -- a fact that stands under another
 abbrev pub pair_text : ℕ → ℕ → ℕ → List ℕ

@@ -4,7 +4,7 @@ ghost use Rattle.explain.specs.Texts.{line_text, location_text};
 
 use crate::advice::{advice, complaint};
 use crate::explanation::{Explanation, Line, Location};
-use ranking::judge::Judgement;
+use ranking::judge::Rejection;
 use site::refusal::Refusal;
 use std::fmt;
 
@@ -13,8 +13,8 @@ impl fmt::Display for Line {
 
     fn fmt<W: fmt::Write>(&self, f: &mut fmt::Formatter<W>) -> fmt::Result {
         match self.0 {
-            Judgement::Accepted => write!(f, "accepted"),
-            Judgement::SiteRefused(refusal) | Judgement::RankingRefused(refusal) => {
+            Ok(()) => write!(f, "accepted"),
+            Err(Rejection::Site(refusal) | Rejection::Ranking(refusal)) => {
                 let report = refusal.report();
                 write!(f, "{report}")
             }
@@ -28,11 +28,10 @@ impl fmt::Display for Location {
     fn fmt<W: fmt::Write>(&self, f: &mut fmt::Formatter<W>) -> fmt::Result {
         match self.0 {
             Refusal::File { at, .. } => write!(f, "byte {at}"),
-            Refusal::Chain { factor, a, b } => write!(
+            Refusal::Chain { factor, a, b } | Refusal::Goal { factor, a, b } => write!(
                 f,
                 "factor {factor}, fact {a} under fact {b}"
             ),
-            Refusal::Goal { factor, a, b } => write!(f, "factor {factor}, fact {a} under fact {b}"),
             Refusal::Reply {
                 factor,
                 a,
@@ -46,17 +45,15 @@ impl fmt::Display for Location {
 impl fmt::Display for Explanation {
     fn fmt<W: fmt::Write>(&self, f: &mut fmt::Formatter<W>) -> fmt::Result {
         let (file, refusal) = match self.judgement {
-            Judgement::Accepted => {
-                if self.offered {
-                    return write!(
-                        f,
-                        "The site file describes a task, and the ranking may be relied on for it."
-                    );
-                }
-                return write!(f, "The site file describes a task. No ranking was offered.");
+            Ok(()) if self.offered => {
+                return write!(
+                    f,
+                    "The site file describes a task, and the ranking may be relied on for it."
+                );
             }
-            Judgement::SiteRefused(refusal) => ("Site file", refusal),
-            Judgement::RankingRefused(refusal) => ("Ranking", refusal),
+            Ok(()) => return write!(f, "The site file describes a task. No ranking was offered."),
+            Err(Rejection::Site(refusal)) => ("Site file", refusal),
+            Err(Rejection::Ranking(refusal)) => ("Ranking", refusal),
         };
         let place = Location(refusal);
         let wrong = complaint(refusal);

@@ -15,13 +15,10 @@ const USAGE: &str = "usage: office SITE [RANKING], or office < INPUT";
 
 // The bytes of a file. A file that cannot be read is named on standard error.
 fn read_file(rt: &HostRuntime, name: &str) -> anyhow::Result<Vec<u8>> {
-    match fs::read(rt, name) {
-        Ok(bytes) => Ok(bytes),
-        Err(error) => {
-            eprintln!(rt; "office: cannot read {name}: {error}")?;
-            Err(error.into())
-        }
-    }
+    fs::read(rt, name).or_else(|error| {
+        eprintln!(rt; "office: cannot read {name}: {error}")?;
+        Err(error.into())
+    })
 }
 
 // Says the judgement, and what it means. Only an accepted input is a success.
@@ -29,10 +26,7 @@ fn say(rt: &HostRuntime, judgement: Judgement, offered: bool) -> anyhow::Result<
     let line = Line(judgement);
     let explanation = Explanation { judgement, offered };
     println!(rt; "{line}\n{explanation}")?;
-    match judgement {
-        Judgement::Accepted => Ok(()),
-        _ => Err(anyhow!("refused")),
-    }
+    judgement.map_err(|_| anyhow!("refused"))
 }
 
 fn judge_files(rt: &HostRuntime, site: &str, ranking: Option<String>) -> anyhow::Result<()> {
@@ -70,8 +64,9 @@ fn run(rt: &HostRuntime) -> anyhow::Result<()> {
 
 // What is wrong was said where it was found, so an error is not printed again.
 fn main(rt: HostRuntime) -> ExitCode {
-    match run(&rt) {
-        Ok(()) => ExitCode::SUCCESS,
-        Err(_) => ExitCode::FAILURE,
+    if run(&rt).is_ok() {
+        ExitCode::SUCCESS
+    } else {
+        ExitCode::FAILURE
     }
 }
