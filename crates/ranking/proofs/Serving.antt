@@ -3,8 +3,6 @@ use Rattle.std.proofs.Common.{◌≡◌, ℕ, zero, suc, ◌-◌, ◌<◌, Bool,
 use borrow.Author.Tests.{clash}
 use Rattle.std.proofs.lemmas.List.{get_or-take}
 use Rattle.task.specs.declared.row.Row.{Row}
-use Rattle.task.specs.Limits.{fact_limit}
-use Rattle.task.proofs.Moving.{lands}
 use Rattle.task.specs.Task.{FactoredTask, move}
 use Rattle.std.specs.Bool.{MatchBool}
 use Rattle.ranking.specs.Finding.{ServesBeside}
@@ -32,10 +30,6 @@ pub seen : (t : Task) (j l x : ℕ) (o : Option ℕ) → x < (part t.parts j).fa
     → move (meaning t) j l x ≡ o
 seen t j l x o h e = sym (e ∙ ap (λ (r : Row). target r l x) (row_at t j x h) ∙ target_move t j l x)
 
--- a label leads from a fact to one of at most sixteen
-pub lands_low : (t : Task) (j l x y : ℕ) → j < t.factors → x < (part t.parts j).facts → move (meaning t) j l x ≡ Some y → y < fact_limit
-lands_low t j l x y in' h e = let a = lands t j l x y in' h e in let b = t.small j in' in omega arith
-
 module _ (t : FactoredTask) (r : Ranking) (j k m x : ℕ) where
   -- where x moves by k and not by m to a fact at least as good, m does not serve
   pub serves_not : (y : ℕ) → x < t.facts j → move t j k x ≡ Some y → ((z : ℕ) → move t j m x ≡ Some z → r j y z ≡ true → ⊥) → Decides false (Serves t r j k m)
@@ -53,11 +47,6 @@ none_some p q = let z : ◌≡◌ {A = ℕ} 0 1 = cc in omega arith
 
 pub at_same : {o : Option ℕ} {y z : ℕ} (P : ℕ → Bool) → o ≡ Some y → o ≡ Some z → P z ≡ true → P y ≡ true
 at_same {o} {y} {z} P p q b = let s : z ≡ y = cc in rw s at b
-
-pub goal_seen : (t : Task) (j x : ℕ) (b : Bool) → x < (part t.parts j).facts
-    → (get_or (take ((part t.parts j).facts - 0) (part t.parts j).rows) x (record { goal = false; next = [] })).goal ≡ b
-    → (meaning t).goal j x ≡ b
-goal_seen t j x b h e = sym (ap (λ (r : Row). r.goal) (row_at t j x h)) ∙ e
 
 -- in each other factor a label serves, or in one it does not
 pub beside_by : (t : FactoredTask) (r : Ranking) (i k m : ℕ) (b : Bool)

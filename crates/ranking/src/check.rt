@@ -4,9 +4,10 @@ ghost use Rattle.task.specs.Meaning.{meaning, state_of};
 ghost use Rattle.ranking.specs.First.{FirstError};
 ghost use Rattle.ranking.specs.Ranking.{under};
 ghost use Rattle.ranking.specs.Verdict.{Checked};
+ghost use Rattle.ranking.specs.Tables.{order};
 ghost use Rattle.ranking.specs.Meaning.{relation};
 
-use crate::order::Ranking;
+use crate::order::{Order, Ranking};
 use site::refusal::Refusal;
 use task::state::State;
 use task::task::Task;
@@ -36,6 +37,18 @@ fn try_pairs<F: Fn(u8, u8, u8) -> Result<(), Refusal>>(
     Ok(())
 }
 
+impl Order {
+    // Whether a fact stands under another.
+    pub(crate) fn ranks(&self, a: u8, b: u8) -> bool
+        ensures { result ≡ order self.now a b }
+    {
+        self.rows
+            .get(a as usize)
+            .and_then(|above| above.facts.get(b as usize))
+            .is_some_and(|ranked| *ranked)
+    }
+}
+
 impl Ranking {
     // The first place at which the ranking breaks a rule, if it is no label-dominance simulation of the task.
     pub fn check(&self, task: &Task) -> Result<(), Refusal>
@@ -56,9 +69,7 @@ impl Ranking {
     {
         self.parts
             .get(factor as usize)
-            .and_then(|order| order.rows.get(a as usize))
-            .and_then(|above| above.facts.get(b as usize))
-            .is_some_and(|ranked| *ranked)
+            .is_some_and(|order| order.ranks(a, b))
     }
 
     // Whether each fact of a state stands under that of another state.

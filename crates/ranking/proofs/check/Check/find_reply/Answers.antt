@@ -1,9 +1,9 @@
-use Rattle.std.proofs.Common.{◌<◌, sym, refl, arith, rules, below_more}
+use Rattle.std.proofs.Common.{◌<◌, sym, refl, arith, rules}
 use borrow.Author.Tests.{both_ways}
 use Rattle.task.specs.Tables.{part}
 use Rattle.task.specs.Meaning.{meaning}
 use Rattle.ranking.specs.Meaning.{relation}
-use Rattle.ranking.proofs.Serving.{seen, serves_not, at_some, none_some, at_same}
+use Rattle.ranking.proofs.Serving.{seen, serves_not, none_some, at_same}
 use Rattle.ranking.proofs.Replying.{passed, too_dear, moves_none, too_low, serves_none, found_none}
 use Rattle.ranking.proofs.check.Check.find_reply.Goals as goal
 
@@ -48,16 +48,6 @@ labels-preserved c =
     let q = seen t j c.labels.other x _ h c.in-Some-target-2.ensures in
     let n = serves_not (meaning t) r j _ c.labels.other x c.in-Some-target.y h p (λ z e b. both_ways _ (sym c.if-not-ranks-2.ensures) (at_same (r j _) q e b)) in
     (c.labels.invariant.0, passed (meaning t) r c.args.wanted _ c.labels.invariant.1 (serves_none (meaning t) r c.args.wanted _ j c.loop-j-test.true c.if-j-factor.false n))
-
-pub loop-x-preserved : goal.loop-x-preserved
-loop-x-preserved c =
-    let t = c.args.self.now.task.now in
-    let r = relation c.args.self.now.ranking.now in
-    let j = c.loop-j.j in
-    let x = c.loop-x.x in
-    let h : x < (part t.parts j).facts = search rules in
-    below_more _ _ c.loop-x.invariant
-    (at_some (meaning t) r j _ _ x _ _ (seen t j _ x _ h c.in-Some-target.ensures) (seen t j _ x _ h c.in-Some-target-2.ensures) (sym c.if-not-ranks-2.ensures))
 
 pub returns-after-labels : goal.returns-after-labels
 returns-after-labels c =
