@@ -4,7 +4,7 @@
 
 use anyhow::anyhow;
 use explain::explanation::{Explanation, Line};
-use ranking::judge::{Judgement, judge, judge_site};
+use ranking::judge::{judge, judge_site};
 use site::input::split_input;
 use site::limits::FILE_BYTES;
 use std::io::Read;
@@ -21,10 +21,14 @@ fn read_file(rt: &HostRuntime, name: &str) -> anyhow::Result<Vec<u8>> {
     })
 }
 
-// Says the judgement, and what it means. Only an accepted input is a success.
-fn say(rt: &HostRuntime, judgement: Judgement, offered: bool) -> anyhow::Result<()> {
+// Says what is judged of a site file, and of a ranking if one is offered, and what that means. Only an accepted input is a success.
+fn say(rt: &HostRuntime, site: &[u8], ranking: Option<&[u8]>) -> anyhow::Result<()> {
+    let judgement = ranking.map_or_else(|| judge_site(site), |ranking| judge(site, ranking));
     let line = Line(judgement);
-    let explanation = Explanation { judgement, offered };
+    let explanation = Explanation {
+        judgement,
+        offered: ranking.is_some(),
+    };
     println!(rt; "{line}\n{explanation}")?;
     judgement.map_err(|_| anyhow!("refused"))
 }
@@ -32,20 +36,22 @@ fn say(rt: &HostRuntime, judgement: Judgement, offered: bool) -> anyhow::Result<
 fn judge_files(rt: &HostRuntime, site: &str, ranking: Option<String>) -> anyhow::Result<()> {
     let site = read_file(rt, site)?;
     let Some(name) = ranking else {
-        return say(rt, judge_site(&site), false);
+        return say(rt, &site, None);
     };
     let ranking = read_file(rt, name.as_str())?;
-    say(rt, judge(&site, &ranking), true)
+    say(rt, &site, Some(ranking.as_slice()))
 }
 
 fn judge_input(rt: &HostRuntime) -> anyhow::Result<()> {
     let mut input = Vec::new(rt.alloc());
     rt.stdin().take(FILE_BYTES as u64).read_to_end(&mut input)?;
     let (site, ranking) = split_input(&input);
-    if ranking.is_empty() {
-        return say(rt, judge_site(site), false);
-    }
-    say(rt, judge(site, ranking), true)
+    let offered = if ranking.is_empty() {
+        None
+    } else {
+        Some(ranking)
+    };
+    say(rt, site, offered)
 }
 
 fn run(rt: &HostRuntime) -> anyhow::Result<()> {

@@ -41,14 +41,17 @@ pub data FirstError (t : FactoredTask) (Answers : ℕ → ℕ → ℕ → Result
   fails : {e : Refusal} (i a b : ℕ) → Inside t i a b → Answers i a b (Err e)
       → ((j x y : ℕ) → Then (Then ◌<◌) (j, (x, y)) (i, (a, b)) → Inside t j x y → Answers j x y (Ok tt)) → FirstError t Answers (Err e)
 
--- the three rules at two facts of a factor
+-- a rule at two facts of a factor: it holds; or it is broken there, and is reported as `report` says
+abbrev pub AtPair : FactoredTask → (ℕ → ℕ → ℕ → Type 0) → (ℕ → ℕ → ℕ → Type 0) → (ℕ → ℕ → ℕ → Refusal) → ℕ → ℕ → ℕ → Result Unit Refusal → Type 0
+AtPair t Holds Fault report i a b (Ok _) = Holds i a b
+AtPair t Holds Fault report i a b (Err e) = (e ≡ report i a b) × (Inside t i a b → Fault i a b)
+
 abbrev pub ChainAt : FactoredTask → Ranking → ℕ → ℕ → ℕ → Result Unit Refusal → Type 0
-ChainAt t r i a b (Ok _) = ChainHolds t r i a b
-ChainAt t r i a b (Err e) = (e ≡ Chain i a b) × (Inside t i a b → ChainFault t r i a b)
+ChainAt t r = AtPair t (ChainHolds t r) (ChainFault t r) Chain
 
 abbrev pub GoalAt : FactoredTask → Ranking → ℕ → ℕ → ℕ → Result Unit Refusal → Type 0
-GoalAt t r i a b (Ok _) = GoalHolds t r i a b
-GoalAt t r i a b (Err e) = (e ≡ Goal i a b) × (Inside t i a b → GoalFault t r i a b)
+GoalAt t r = AtPair t (GoalHolds t r) (GoalFault t r) Goal
 
+-- the reply rule at two facts, for each label
 abbrev pub ReplyAt : FactoredTask → Ranking → ℕ → ℕ → ℕ → Result Unit Refusal → Type 0
 ReplyAt t r i a b = FirstBy ◌<◌ (λ k. ReplyHolds t r i a b k) (λ k. Inside t i a b → ReplyFault t r i a b k) (λ k. Reply i a b k)

@@ -3,7 +3,7 @@ ghost use Rattle.ranking.specs.Tables.{Reflexive};
 
 use task::limits::{FACTORS, FACTS};
 
-// Of one fact: by fact, whether it stands under that.
+// Of one fact: by fact, whether it stands under that. Each level of the table is a type, for the calls that it has.
 #[derive(Clone, Copy)]
 pub struct Above {
     pub facts: [bool; FACTS],

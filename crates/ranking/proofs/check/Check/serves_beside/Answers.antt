@@ -1,6 +1,5 @@
-use Rattle.std.proofs.Common.{◌≡◌, refl, arith, rules}
+use Rattle.std.proofs.Common.{◌≡◌, rules}
 use borrow.Author.Tests.{tests}
-use Rattle.std.proofs.lemmas.Iterator.{cases_from_all, YieldsList-from_range}
 use Rattle.task.specs.Meaning.{meaning}
 use Rattle.ranking.specs.Meaning.{relation}
 use Rattle.ranking.specs.Ranking.{Serves}
@@ -16,6 +15,5 @@ returns c =
     let k = c.args.label in
     let m = c.args.other in
     beside_by t r i k m c.all.result
-    (all_below (λ j. (j ≡ i → ⊥) → Serves t r j k m) (λ j. (j ≡ i → ⊥) × (Serves t r j k m → ⊥)) t.factors c.all.result
-    (cases_from_all _ _ _ (λ j. (j ≡ i → ⊥) → Serves t r j k m) (λ j. (j ≡ i → ⊥) × (Serves t r j k m → ⊥)) c.all.ensures.ran (YieldsList-from_range 0 t.factors t.factors refl (omega arith))
-    (λ x q k. search (rules, tests)) (λ x q k. search (rules, tests))))
+    (all_below t.factors _ _ _ (λ j. (j ≡ i → ⊥) → Serves t r j k m) (λ j. (j ≡ i → ⊥) × (Serves t r j k m → ⊥)) c.all.ensures.ran
+    (λ x q k. search (rules, tests)) (λ x q k. search (rules, tests)))

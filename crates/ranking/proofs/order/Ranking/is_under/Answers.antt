@@ -1,6 +1,5 @@
-use Rattle.std.proofs.Common.{◌≡◌, true, false, get_or, refl, arith, rules}
+use Rattle.std.proofs.Common.{◌≡◌, true, false, get_or, rules}
 use borrow.Author.Tests.{tests}
-use Rattle.std.proofs.lemmas.Iterator.{cases_from_all, YieldsList-from_range}
 use Rattle.ranking.specs.Meaning.{relation}
 use Rattle.ranking.proofs.Comparing.{under_by}
 use Rattle.ranking.proofs.Ranges.{all_below}
@@ -13,6 +12,5 @@ returns c =
     let s = c.args.s.now in
     let u = c.args.u.now in
     under_by t r s u c.all.result
-    (all_below (λ k. r k (get_or s.facts k 0) (get_or u.facts k 0) ≡ true) (λ k. r k (get_or s.facts k 0) (get_or u.facts k 0) ≡ false) t.factors c.all.result
-    (cases_from_all _ _ _ (λ k. r k (get_or s.facts k 0) (get_or u.facts k 0) ≡ true) (λ k. r k (get_or s.facts k 0) (get_or u.facts k 0) ≡ false) c.all.ensures.ran (YieldsList-from_range 0 t.factors t.factors refl (omega arith))
-    (λ x q k. search (rules, tests)) (λ x q k. search (rules, tests))))
+    (all_below t.factors _ _ _ (λ k. r k (get_or s.facts k 0) (get_or u.facts k 0) ≡ true) (λ k. r k (get_or s.facts k 0) (get_or u.facts k 0) ≡ false) c.all.ensures.ran
+    (λ x q k. search (rules, tests)) (λ x q k. search (rules, tests)))
