@@ -16,11 +16,12 @@ impl Check<'_> {
         let part = &self.task.parts[factor as usize];
         let order = &self.ranking.parts[factor as usize];
         for (x, row) in part.rows[0..part.facts as usize].iter().enumerate() {
-            if let Some(y) = row.target(label, x as u8) {
-                match row.target(other, x as u8) {
-                    Some(z) if order.ranks(y, z) => {}
-                    _ => return false,
-                }
+            if let Some(y) = row.target(label, x as u8)
+                && !row
+                    .target(other, x as u8)
+                    .is_some_and(|z| order.ranks(y, z))
+            {
+                return false;
             }
         }
         true
