@@ -1,5 +1,5 @@
 // The estimators beside distances that are found by rounds of relaxation.
-use crate::relaxing::{Part, Rounds};
+use crate::relaxing::Part;
 use crate::tasks::random_site;
 use anyhow::anyhow;
 use estimators::blank::Blank;
@@ -36,19 +36,15 @@ fn greater(first: Option<u32>, second: Option<u32>) -> Option<u32> {
     Some(first?.max(second?))
 }
 
-fn fact(state: &State, factor: u8) -> u8 {
-    state.facts.get(factor as usize).copied().unwrap_or(0)
-}
-
 // The largest distance of a fact of the state, by rounds of relaxation.
 fn largest(task: &Task, state: &State) -> Option<u32> {
     (0..task.factors)
-        .map(|factor| {
+        .map(|first| {
             let part = Part {
-                first: factor,
+                first,
                 second: None,
             };
-            Rounds::of(task, part).cost(fact(state, factor), 0)
+            part.distance(task, state)
         })
         .fold(Some(0), greater)
 }
@@ -62,7 +58,7 @@ fn distance(task: &Task, state: &State, first: u8, second: u8) -> Option<u32> {
         first,
         second: Some(second),
     };
-    Rounds::of(task, part).cost(fact(state, first), fact(state, second))
+    part.distance(task, state)
 }
 
 fn random_state(task: &Task, random: &mut Random) -> State {

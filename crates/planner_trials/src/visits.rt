@@ -20,7 +20,7 @@ use std::fmt;
 // So many orders of one take end every run.
 const ORDERS: u16 = 1025;
 
-// Starts a run, and orders so many takes until it ends.
+// Starts a run, and orders so many takes until it ends. The orders are counted: no call says that a run ends.
 fn run<E: Estimator, L: WaitingList<SearchKey>>(planner: &mut Planner<E, L>, takes: u16) {
     let _ = planner.call(Call::Start);
     for _ in 0..ORDERS {
@@ -89,7 +89,7 @@ fn plan<E: Estimator, L: WaitingList<SearchKey>>(
     show(rt, name, planner)
 }
 
-// The estimator and the list of a visit.
+// The estimator and the list of the program `visit`, which as a program cannot be imported.
 pub(crate) type Visit = Planner<Greater<Longest<DistanceHeap>, Pair<DistanceHeap>>, SearchHeap>;
 
 pub(crate) fn visit() -> Visit {
