@@ -5,7 +5,7 @@ ghost use Rattle.astar.specs.declared.refusal.CallRefusal.TheVariants.{Input};
 
 use site::refusal::{Refusal, Report};
 
-#[derive(Clone, Copy)]
+#[derive(Clone, Copy, Debug, PartialEq, Eq)]
 pub enum CallRefusal {
     // The file of the call is refused.
     Input(Refusal),
@@ -24,7 +24,7 @@ pub enum CallRefusal {
 }
 
 // A refusal as it is reported.
-#[derive(Clone, Copy)]
+#[derive(Clone, Copy, Debug, PartialEq, Eq)]
 pub enum CallReport {
     // That of the file of the call.
     File(Report),
@@ -45,7 +45,7 @@ impl From<CallRefusal> for CallReport {
 
     fn from(refusal: CallRefusal) -> CallReport {
         match refusal {
-            CallRefusal::Input(refusal) => CallReport::File(Report::from(refusal)),
+            CallRefusal::Input(refusal) => CallReport::File(refusal.into()),
             CallRefusal::NoTakes => CallReport::Own(12),
             CallRefusal::PastPlan => CallReport::Own(13),
             CallRefusal::Empty => CallReport::Own(21),

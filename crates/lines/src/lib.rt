@@ -41,7 +41,7 @@ impl Verdict {
 }
 
 // A line of the answer.
-#[derive(Clone, Copy)]
+#[derive(Clone, Copy, Debug, PartialEq, Eq)]
 pub enum Line {
     Verdict(Verdict),
     // What the plan costs.
