@@ -49,6 +49,7 @@ pub fn serve_all<K: Key, L: WaitingList<K>>(
     ensures decided { Decided K.Key.sooner (L.WaitingList.capacity list.old) (L.WaitingList.holds list.old) (take result requests.now) (take result answers.new) (L.WaitingList.holds list.new) }
 {
     let count = requests.len().min(answers.len());
+    // An answer is written by its number: of elements that a loop over `iter_mut` wrote, a proof knows nothing.
     for (at, request) in requests[..count].iter().enumerate() {
         answers[at] = serve(list, *request);
     }

@@ -4,45 +4,39 @@ use lists::keys::{DistanceKey, Key, SearchKey};
 use lists::row::Row;
 use lists::runs::{Answer, Request, serve};
 use lists::waiting::{BeyondCapacity, WaitingList};
-
-// The next number of a linear congruential row.
-fn next(state: u64) -> u64 {
-    state
-        .wrapping_mul(6364136223846793005)
-        .wrapping_add(1442695040888963407)
-}
+use samples::random::Random;
 
 // A number below 1100, so that some are beyond the capacity.
-fn number_of(state: u64) -> usize {
-    ((state >> 24) % 1100) as usize
+fn number_of(random: u64) -> usize {
+    ((random >> 24) % 1100) as usize
 }
 
 // Keys of few values, so that many tie.
-fn search_key(state: u64) -> SearchKey {
+fn search_key(random: u64) -> SearchKey {
     SearchKey {
-        sum: ((state >> 36) & 15) as u32,
-        estimate: ((state >> 40) & 3) as u32,
-        entry: ((state >> 44) & 3) as u16,
+        sum: ((random >> 36) & 15) as u32,
+        estimate: ((random >> 40) & 3) as u32,
+        entry: ((random >> 44) & 3) as u16,
     }
 }
 
-fn distance_key(state: u64) -> DistanceKey {
+fn distance_key(random: u64) -> DistanceKey {
     DistanceKey {
-        distance: ((state >> 36) & 31) as u32,
-        fact: ((state >> 44) & 3) as u16,
+        distance: ((random >> 36) & 31) as u32,
+        fact: ((random >> 44) & 3) as u16,
     }
 }
 
 // A call: mostly a put, often a take, and now and then an emptying.
-fn request<K>(state: u64, key: K) -> Request<K>
+fn request<K>(random: u64, key: K) -> Request<K>
 where
     K: Key,
 {
-    match state >> 58 {
+    match random >> 58 {
         0 => Request::Empty,
         1..=23 => Request::Take,
         _ => Request::Put {
-            number: number_of(state),
+            number: number_of(random),
             key,
         },
     }
@@ -107,10 +101,10 @@ fn try_lists<K: Key, A: WaitingList<K>, B: WaitingList<K>, F: Fn(u64) -> K>(
     requires { F.IsAlwaysCallable key }
 {
     let mut tally = Tally { equal: 0, sum: 0 };
-    let mut state = seed;
+    let mut random = Random { state: seed };
     for _ in 0..CALLS {
-        state = next(state);
-        tally.note(same_answer(one, other, request(state, key(state))));
+        let number = random.next();
+        tally.note(same_answer(one, other, request(number, key(number))));
     }
     tally.show(rt, name)
 }
