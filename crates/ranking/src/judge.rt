@@ -9,7 +9,7 @@ use site::refusal::Refusal;
 use task::task::Task;
 
 // Which of two files is refused, and why.
-#[derive(Clone, Copy)]
+#[derive(Clone, Copy, Debug, PartialEq, Eq)]
 pub enum Rejection {
     Site(Refusal),
     Ranking(Refusal),
