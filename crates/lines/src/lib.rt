@@ -16,7 +16,7 @@ pub const ROW: usize = 64;
 // How many bytes a line has before its end, at most.
 const ITEMS: usize = ROW - 1;
 
-// What a visit ends with.
+// What a visit ends with. A planner's word says so too, and names an entry besides; a line needs no planner.
 #[derive(Clone, Copy, Debug, PartialEq, Eq)]
 pub enum Verdict {
     // A plan was found.

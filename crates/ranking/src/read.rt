@@ -15,7 +15,7 @@ use site::refusal::{Fault, Refusal};
 use task::limits::{FACTORS, FACTS};
 use task::task::Task;
 
-// Whether a task has such a factor, and the factor such a fact.
+// Whether a task has such a factor, and the factor such a fact. A draft asks the same of its tables; a trait for one line would be no plainer.
 fn has_fact(task: &Task, factor: u8, fact: u8) -> bool
     ensures { result ≡ knows (meaning task.now) factor fact }
 {
