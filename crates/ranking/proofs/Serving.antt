@@ -3,6 +3,8 @@ use Rattle.std.proofs.Common.{◌≡◌, ℕ, zero, suc, ◌-◌, ◌<◌, Bool,
 use borrow.Author.Tests.{clash}
 use Rattle.std.proofs.lemmas.List.{get_or-take}
 use Rattle.task.specs.declared.row.Row.{Row}
+use Rattle.task.specs.Limits.{fact_limit}
+use Rattle.task.proofs.Moving.{lands}
 use Rattle.task.specs.Task.{FactoredTask, move}
 use Rattle.std.specs.Bool.{MatchBool}
 use Rattle.ranking.specs.Finding.{ServesBeside}
@@ -29,6 +31,10 @@ pub seen : (t : Task) (j l x : ℕ) (o : Option ℕ) → x < (part t.parts j).fa
     → o ≡ target (get_or (take ((part t.parts j).facts - 0) (part t.parts j).rows) x (record { goal = false; next = [] })) l x
     → move (meaning t) j l x ≡ o
 seen t j l x o h e = sym (e ∙ ap (λ (r : Row). target r l x) (row_at t j x h) ∙ target_move t j l x)
+
+-- a label leads from a fact to one of at most sixteen
+pub lands_low : (t : Task) (j l x y : ℕ) → j < t.factors → x < (part t.parts j).facts → move (meaning t) j l x ≡ Some y → y < fact_limit
+lands_low t j l x y in' h e = let a = lands t j l x y in' h e in let b = t.small j in' in omega arith
 
 module _ (t : FactoredTask) (r : Ranking) (j k m x : ℕ) where
   -- where x moves by k and not by m to a fact at least as good, m does not serve

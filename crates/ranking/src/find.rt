@@ -8,7 +8,7 @@ use crate::wanted::Wanted;
 
 impl Check<'_> {
     // A reply that is wanted: the first label that serves, and the fact that it leads to.
-    #[tactic(auto, using(crate::proofs::Serving::seen))]
+    #[tactic(auto, using(crate::proofs::Serving::seen, crate::proofs::Serving::lands_low))]
     pub(crate) fn find_reply(&self, wanted: Wanted) -> Option<(u8, u8)>
         ensures { Found (meaning self.now.task.now) (relation self.now.ranking.now) wanted result }
     {
@@ -34,7 +34,7 @@ impl Check<'_> {
                     continue;
                 }
                 let part = &self.task.parts[j as usize];
-                let order = &self.ranking.parts[j as usize];
+                let above = &self.ranking.parts[j as usize].rows;
                 for (x, row) in part.rows[0..part.facts as usize].iter().enumerate() {
                     let Some(y) = row.target(label, x as u8) else {
                         continue;
@@ -42,7 +42,7 @@ impl Check<'_> {
                     let Some(z) = row.target(other, x as u8) else {
                         continue 'labels;
                     };
-                    if !order.ranks(y, z) {
+                    if !above[y as usize].facts[z as usize] {
                         continue 'labels;
                     }
                 }

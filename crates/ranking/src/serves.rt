@@ -8,18 +8,18 @@ use crate::check::Check;
 
 impl Check<'_> {
     // Whether, in this factor, `other` does at each fact at least as well as `label`.
-    #[tactic(auto, using(crate::proofs::Serving::seen))]
+    #[tactic(auto, using(crate::proofs::Serving::seen, crate::proofs::Serving::lands_low))]
     pub(crate) fn serves(&self, factor: u8, label: u8, other: u8) -> bool
         requires { factor < self.now.task.now.factors }
         ensures { Decides result (Serves (meaning self.now.task.now) (relation self.now.ranking.now) factor label other) }
     {
         let part = &self.task.parts[factor as usize];
-        let order = &self.ranking.parts[factor as usize];
+        let above = &self.ranking.parts[factor as usize].rows;
         for (x, row) in part.rows[0..part.facts as usize].iter().enumerate() {
             if let Some(y) = row.target(label, x as u8)
                 && !row
                     .target(other, x as u8)
-                    .is_some_and(|z| order.ranks(y, z))
+                    .is_some_and(|z| above[y as usize].facts[z as usize])
             {
                 return false;
             }

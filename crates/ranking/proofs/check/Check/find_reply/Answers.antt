@@ -46,7 +46,7 @@ labels-preserved c =
     let h : x < (part t.parts j).facts = search rules in
     let p = seen t j c.args.wanted.label x _ h c.in-Some-target.ensures in
     let q = seen t j c.labels.other x _ h c.in-Some-target-2.ensures in
-    let n = serves_not (meaning t) r j _ c.labels.other x c.in-Some-target.y h p (λ z e b. both_ways _ (sym c.if-not-ranks-2.ensures) (at_same (r j _) q e b)) in
+    let n = serves_not (meaning t) r j _ c.labels.other x c.in-Some-target.y h p (λ z e b. both_ways _ c.if-not-above-y.true (at_same (r j _) q e b)) in
     (c.labels.invariant.0, passed (meaning t) r c.args.wanted _ c.labels.invariant.1 (serves_none (meaning t) r c.args.wanted _ j c.loop-j-test.true c.if-j-factor.false n))
 
 pub returns-after-labels : goal.returns-after-labels
