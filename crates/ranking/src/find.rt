@@ -42,6 +42,7 @@ impl Check<'_> {
                     let Some(z) = row.target(other, x as u8) else {
                         continue 'labels;
                     };
+                    // By index, which needs no test at run time: both facts are proved to have a place in the table.
                     if !above[y as usize].facts[z as usize] {
                         continue 'labels;
                     }

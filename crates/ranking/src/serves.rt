@@ -7,7 +7,7 @@ ghost use Rattle.ranking.specs.Meaning.{relation};
 use crate::check::Check;
 
 impl Check<'_> {
-    // Whether, in this factor, `other` does at each fact at least as well as `label`.
+    // Whether, in this factor, `other` does at each fact at least as well as `label`. The table is indexed as in the finder.
     #[tactic(auto, using(crate::proofs::Serving::seen, crate::proofs::Serving::lands_low))]
     pub(crate) fn serves(&self, factor: u8, label: u8, other: u8) -> bool
         requires { factor < self.now.task.now.factors }
