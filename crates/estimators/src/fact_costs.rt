@@ -15,6 +15,7 @@ use task::limits::{FACTORS, FACTS};
 #[derive(Clone, Copy)]
 pub(crate) struct FactCosts {
     pub(crate) columns: [[Option<u32>; FACTS]; FACTORS],
+    ghost full: { length columns ≡ factor_limit },
     ghost low: { LowColumns columns },
 }
 

@@ -9,7 +9,7 @@ pub loop-factor-preserved : goal.loop-factor-preserved
 loop-factor-preserved g c =
     let t = c.args.task.now in
     let j = c.loop-factor.factor in
-    columns_more c.loop-factor.self.distances.columns _ (meaning t) j c.distances-table.result (t.small j (omega arith)) c.distances-table.ensures c.put.ensures.given c.put.ensures.others c.loop-factor.invariant
+    columns_more c.loop-factor.self.distances.columns _ (meaning t) j c.distances-table.result c.distances-table.ensures (λ x l. c.put.ensures.given x (let s = t.small j (omega arith) in omega arith)) c.put.ensures.others c.loop-factor.invariant
 
 pub returns : goal.returns
 returns g c =
