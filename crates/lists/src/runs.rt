@@ -5,7 +5,7 @@ ghost use Rattle.lists.specs.Runs.{Answers, Runs, Decided};
 use crate::keys::Key;
 use crate::waiting::{BeyondCapacity, WaitingList};
 
-// A call of a waiting list: `clear`, `put` or `take`.
+// A call of a waiting list: `clear`, `put` or `take`. It is a value, and no closure, since the laws speak of lists of calls.
 #[derive(Clone, Copy, Debug, PartialEq, Eq)]
 pub enum Request<K> {
     Empty,
@@ -36,7 +36,7 @@ pub fn serve<K: Key, L: WaitingList<K>>(list: &mut L, request: Request<K>) -> An
     }
 }
 
-// Makes the calls in order, as many as there are answers lent, and says how many it made.
+// Makes the calls in order, as many as there are answers lent, and says how many it made. Answers are lent, since no list allocates.
 pub fn serve_all<K: Key, L: WaitingList<K>>(
     list: &mut L,
     requests: &[Request<K>],

@@ -35,23 +35,17 @@ fn say(rt: &HostRuntime, site: &[u8], ranking: Option<&[u8]>) -> anyhow::Result<
 
 fn judge_files(rt: &HostRuntime, site: &str, ranking: Option<String>) -> anyhow::Result<()> {
     let site = read_file(rt, site)?;
-    let Some(name) = ranking else {
-        return say(rt, &site, None);
-    };
-    let ranking = read_file(rt, name.as_str())?;
-    say(rt, &site, Some(ranking.as_slice()))
+    let ranking = ranking
+        .map(|name| read_file(rt, name.as_str()))
+        .transpose()?;
+    say(rt, &site, ranking.as_deref())
 }
 
 fn judge_input(rt: &HostRuntime) -> anyhow::Result<()> {
     let mut input = Vec::new(rt.alloc());
     rt.stdin().take(FILE_BYTES as u64).read_to_end(&mut input)?;
     let (site, ranking) = split_input(&input);
-    let offered = if ranking.is_empty() {
-        None
-    } else {
-        Some(ranking)
-    };
-    say(rt, site, offered)
+    say(rt, site, (!ranking.is_empty()).then_some(ranking))
 }
 
 fn run(rt: &HostRuntime) -> anyhow::Result<()> {

@@ -7,7 +7,7 @@ use planner::planner::Planner;
 // So many takes end every run.
 const TAKES: u16 = 1025;
 
-// Loads a site and runs to the end, some times; the cost, the entries and the labels tried of the last run, added up.
+// Loads a site and runs to the end, some times; the cost, the entries and the labels tried of the last run, as the digits of one number.
 #[unsafe(no_mangle)]
 pub extern "C" fn plan_site(site: &[u8], rounds: u32) -> u64 {
     let mut planner = Planner::new(Blank, SearchHeap::new());
@@ -20,5 +20,5 @@ pub extern "C" fn plan_site(site: &[u8], rounds: u32) -> u64 {
     let counts = planner.counts();
     cost.wrapping_mul(1000000000000)
         .wrapping_add((counts.entries as u64).wrapping_mul(1000000))
-        .wrapping_add(counts.tried as u64)
+        .wrapping_add(u64::from(counts.tried))
 }

@@ -88,7 +88,7 @@ impl Tally {
         }
         self.equal = self.equal.saturating_add(1);
         match estimate {
-            Some(cost) => self.sum = self.sum.saturating_add(cost as u64),
+            Some(cost) => self.sum = self.sum.saturating_add(u64::from(cost)),
             None => self.hopeless = self.hopeless.saturating_add(1),
         }
     }

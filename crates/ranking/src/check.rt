@@ -19,7 +19,7 @@ pub(crate) struct Check<'a> {
     pub(crate) ranking: &'a Ranking,
 }
 
-// Checks each two facts of a factor, in rising order of the factor and the two, up to the first error.
+// Checks each two facts of a factor, given one by one as the relation of the definitions takes them, in rising order of the factor and the two, up to the first error.
 fn try_pairs<F: Fn(u8, u8, u8) -> Result<(), Refusal>>(
     task: &Task,
     check_at: F,

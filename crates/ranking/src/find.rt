@@ -18,6 +18,7 @@ impl Check<'_> {
             to,
             from,
         } = wanted;
+        // Nested loops that one loop label leaves: the order of labels, factors and facts is read in one place.
         let mut found = None;
         'labels: for other in 0..self.task.labels + 1 {
             if self.task.price(label) < self.task.price(other) {

@@ -18,6 +18,7 @@ pub enum Rejection {
 // The site file describes a task, and the ranking, if one was offered, may be relied on for it; or one of them is refused.
 pub type Judgement = Result<(), Rejection>;
 
+// A planner does as much and keeps the ranking; each of the two promises something else of two lines.
 fn judge_ranking(task: &Task, bytes: &[u8]) -> Result<(), Refusal>
     ensures { RankingJudged (meaning task.now) bytes.now result }
 {
@@ -25,7 +26,7 @@ fn judge_ranking(task: &Task, bytes: &[u8]) -> Result<(), Refusal>
     ranking.check(task)
 }
 
-// What is to be said of a site file by itself.
+// What is to be said of a site file by itself. Not `judge` without a ranking, of which nothing could be relied on.
 pub fn judge_site(site: &[u8]) -> Judgement
     ensures verdict { Judged site.now None result }
     ensures only { Only site.now None result }

@@ -15,6 +15,7 @@ impl Check<'_> {
     {
         let part = &self.task.parts[factor as usize];
         let above = &self.ranking.parts[factor as usize].rows;
+        // Fact by fact, as the rule is told, with the number of each beside its row.
         for (x, row) in part.rows[0..part.facts as usize].iter().enumerate() {
             if let Some(y) = row.target(label, x as u8)
                 && !row

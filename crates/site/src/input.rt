@@ -11,7 +11,7 @@ fn split_front(input: &[u8]) -> (&[u8], &[u8])
     let &[high, low, ref rest @ ..] = input else {
         return (&[], &[]);
     };
-    let length = (u16::from_be_bytes([high, low]) as usize).min(rest.len());
+    let length = usize::from(u16::from_be_bytes([high, low])).min(rest.len());
     (&rest[..length], &rest[length..])
 }
 

@@ -43,7 +43,7 @@ fn mark(part: &mut Factor, fact: u8)
     part.rows[fact as usize].goal = true;
 }
 
-// Has a label lead from a fact to a fact.
+// Has a label lead from a fact of this factor to a fact.
 fn connect(part: &mut Factor, label: u8, from: u8, to: u8)
     requires label { label ≤ label_limit }
     requires from { from < fact_limit }
@@ -69,7 +69,7 @@ impl Tables {
         }
     }
 
-    // Has a label lead from a fact to a fact.
+    // The same in one of the factors.
     fn connect(&mut self, factor: u8, label: u8, from: u8, to: u8)
         requires factor { factor < factor_limit }
         requires label { label ≤ label_limit }

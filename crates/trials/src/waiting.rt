@@ -5,6 +5,7 @@ use lists::row::Row;
 use lists::runs::{Answer, Request, serve};
 use lists::waiting::{BeyondCapacity, WaitingList};
 use samples::random::Random;
+use std::fmt;
 
 // A number below 1100, so that some are beyond the capacity.
 fn number_of(random: u64) -> usize {
@@ -67,7 +68,7 @@ fn same_answer<K: Key, A: WaitingList<K>, B: WaitingList<K>>(
 const CALLS: u32 = 20000;
 
 // What came of a row of calls: how many answers were equal, and a sum over these.
-#[derive(Clone, Copy)]
+#[derive(Clone, Copy, Default)]
 struct Tally {
     equal: u32,
     sum: u64,
@@ -80,12 +81,12 @@ impl Tally {
             self.sum = self.sum.wrapping_mul(31).wrapping_add(code(answer));
         }
     }
+}
 
-    fn show(&self, rt: &HostRuntime, name: &str) -> anyhow::Result<()> {
-        let equal = self.equal;
-        let sum = self.sum;
-        println!(rt; "{name}: {equal} of {CALLS} answers equal, sum {sum}")?;
-        Ok(())
+impl fmt::Display for Tally {
+    fn fmt<W: fmt::Write>(&self, f: &mut fmt::Formatter<W>) -> fmt::Result {
+        let Tally { equal, sum } = *self;
+        write!(f, "{equal} of {CALLS} answers equal, sum {sum}")
     }
 }
 
@@ -100,13 +101,14 @@ fn try_lists<K: Key, A: WaitingList<K>, B: WaitingList<K>, F: Fn(u64) -> K>(
 ) -> anyhow::Result<()>
     requires { F.IsAlwaysCallable key }
 {
-    let mut tally = Tally { equal: 0, sum: 0 };
+    let mut tally = Tally::default();
     let mut random = Random { state: seed };
     for _ in 0..CALLS {
         let number = random.next();
         tally.note(same_answer(one, other, request(number, key(number))));
     }
-    tally.show(rt, name)
+    println!(rt; "{name}: {tally}")?;
+    Ok(())
 }
 
 pub(crate) fn try_search_lists(rt: &HostRuntime) -> anyhow::Result<()> {

@@ -32,10 +32,9 @@ fn print_line(rt: &HostRuntime, line: Line) -> anyhow::Result<()> {
 
 // Makes a call, and reports it if it is refused.
 fn ask(rt: &HostRuntime, planner: &mut Visit, call: Call<'_>) -> anyhow::Result<()> {
-    match planner.call(call) {
-        Ok(()) => Ok(()),
-        Err(refusal) => print_line(rt, Line::Refused(refusal.into())),
-    }
+    planner
+        .call(call)
+        .or_else(|refusal| print_line(rt, Line::Refused(refusal.into())))
 }
 
 // Offers the ranking, if there is one, and runs to the end. A refused ranking is reported, and the run goes without it.

@@ -12,7 +12,8 @@ use lists::keys::SearchKey;
 use lists::waiting::WaitingList;
 
 impl<E: Estimator, L: WaitingList<SearchKey>> Planner<E, L> {
-    // Does what the call asks for, or refuses and changes nothing.
+    // Does what the call asks for, or refuses and changes nothing. What is done is fixed by the phase and the call together, so both are
+    // matched in one place.
     pub fn call(&mut self, call: Call<'_>) -> Result<(), CallRefusal>
         ensures answers { Answers (view E.value L.holds self.old) (call_of call.entry) result }
         ensures keeps { Keeps self.old result self.new }

@@ -38,7 +38,7 @@ impl<E: Estimator, L: WaitingList<SearchKey>> Planner<E, L> {
         }
     }
 
-    // The cost of the plan that is reported.
+    // The cost of the plan that is reported. Without one, `let .. else` says so before anything is asked, here and in `label`.
     pub fn cost(&self) -> Result<u32, CallRefusal>
         ensures exact { Costs (view E.value L.holds self.now) result }
         ensures cheapest { Cheapness (view E.value L.holds self.now) result }

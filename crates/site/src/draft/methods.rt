@@ -44,10 +44,10 @@ impl Draft {
     {
         match command {
             Command::Sizes { factors, labels } => factors < 1
-                || factors as usize > FACTORS
+                || usize::from(factors) > FACTORS
                 || labels < 1
-                || labels as usize > LABELS,
-            Command::Facts { facts, start, .. } => facts as usize > FACTS || start >= facts,
+                || usize::from(labels) > LABELS,
+            Command::Facts { facts, start, .. } => usize::from(facts) > FACTS || start >= facts,
             Command::Goal { factor, fact } => !self.has_fact(factor, fact),
             Command::Cost { label, .. } => !self.has_label(label),
             Command::Move {
