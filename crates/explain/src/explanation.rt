@@ -6,7 +6,7 @@ use site::refusal::Refusal;
 #[derive(Clone, Copy, Debug, PartialEq, Eq)]
 pub struct Explanation {
     pub judgement: Judgement,
-    // Whether a ranking was offered with the site file.
+    // Whether a ranking was offered with the site file: what is said of an accepted input differs by it.
     pub offered: bool,
 }
 

@@ -41,10 +41,11 @@ fn largest(task: &Task, state: &State) -> Option<u32> {
     (0..task.factors)
         .map(|first| {
             let part = Part {
+                task,
                 first,
                 second: None,
             };
-            part.distance(task, state)
+            part.distance(state)
         })
         .fold(Some(0), greater)
 }
@@ -55,10 +56,11 @@ fn distance(task: &Task, state: &State, first: u8, second: u8) -> Option<u32> {
         return Some(0);
     }
     let part = Part {
+        task,
         first,
         second: Some(second),
     };
-    part.distance(task, state)
+    part.distance(state)
 }
 
 fn random_state(task: &Task, random: &mut Random) -> State {

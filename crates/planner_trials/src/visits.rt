@@ -89,7 +89,7 @@ fn plan<E: Estimator, L: WaitingList<SearchKey>>(
     show(rt, name, planner)
 }
 
-// The estimator and the list of the program `visit`, which as a program cannot be imported.
+// The estimator and the list of the program `visit`, which cannot be imported; a library for one type and three lines would be no plainer.
 pub(crate) type Visit = Planner<Greater<Longest<DistanceHeap>, Pair<DistanceHeap>>, SearchHeap>;
 
 pub(crate) fn visit() -> Visit {

@@ -72,9 +72,6 @@ module _ (t : FactoredTask) (r : Ranking) where
   abbrev inside : ℕ → ℕ → ℕ → Bool
   inside i a b = ltb i t.factors && (ltb a (t.facts i) && ltb b (t.facts i))
 
-  inside_decides : (i a b : ℕ) → Decides (inside i a b) ((i < t.factors) × ((a < t.facts i) × (b < t.facts i)))
-  inside_decides i a b = (λ e. grind (arith, nat_tests), λ w. grind (arith, nat_tests))
-
   -- a rule is broken where the refusal says
   abbrev pub breaks : Refusal → Bool
   breaks (File fault at) = false
