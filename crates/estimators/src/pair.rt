@@ -11,7 +11,7 @@ mod methods;
 pub struct Pair<L> {
     waiting: L,
     factors: TwoFactors,
-    // How many facts the second factor has: pairs go by number, row by row, in a table of fixed size.
+    // How many facts the second factor has, and 0 before it is made ready: pairs go by number, row by row, in a table of fixed size.
     across: u8,
     table: [Option<u32>; NODES],
     ghost low: { LowTable table },

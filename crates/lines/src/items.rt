@@ -9,7 +9,7 @@ use astar::refusal::CallReport;
 use itoa::{Buffer, Integer};
 use site::refusal::Place;
 
-// Appends the number, in decimal digits.
+// Appends the number, in decimal digits. That there is room is asked: how much a text has is no part of its type.
 fn append_number<I: Integer>(text: &mut ArrayString<ITEMS>, number: I)
     requires { length text.old.bytes + I.MAX_STR_LEN < row_limit }
     ensures bytes { text.new.bytes ≡ text.old.bytes ++ I.text number }

@@ -40,7 +40,7 @@ impl Verdict {
     }
 }
 
-// A line of the answer.
+// A line of the answer. It has no `Display`, for the reason in `items`.
 #[derive(Clone, Copy, Debug, PartialEq, Eq)]
 pub enum Line {
     Verdict(Verdict),

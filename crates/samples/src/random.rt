@@ -29,6 +29,10 @@ impl Random {
         ensures row { self.new.state ≡ following self.old.state }
     {
         let number = self.next() >> 33;
-        if n == 0 { 0 } else { (number % n as u64) as u8 }
+        if n == 0 {
+            0
+        } else {
+            (number % u64::from(n)) as u8
+        }
     }
 }

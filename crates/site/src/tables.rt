@@ -13,7 +13,7 @@ use task::row::Row;
 
 #[derive(Clone, Copy)]
 pub(crate) struct Tables {
-    // Fixed tables with their counts beside them, since the box has no heap.
+    // Fixed tables with their counts beside them, since the box has no heap. There are no factors before the command that says how many.
     pub(crate) factors: u8,
     pub(crate) labels: u8,
     // How many factors have their facts.
@@ -22,6 +22,8 @@ pub(crate) struct Tables {
     pub(crate) costs: [Option<u16>; LABEL_SLOTS],
     pub(crate) parts: [Factor; FACTORS],
 }
+
+// Here labels and facts are numbers that were found to be in range; a type for such a number would be taken apart where it is made.
 
 // Has a label lead from a row's fact to a fact.
 fn lead(row: &mut Row, label: u8, to: u8)
