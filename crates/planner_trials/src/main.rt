@@ -22,6 +22,7 @@ fn run(rt: &HostRuntime) -> anyhow::Result<()> {
 fn try_planner(rt: &HostRuntime) -> anyhow::Result<()> {
     visits::try_samples(rt)?;
     visits::try_ten(rt)?;
+    visits::try_other_lists(rt)?;
     phases::try_phases(rt)?;
     phases::try_questions(rt)?;
     phases::try_rows(rt)

@@ -209,3 +209,33 @@ pub(crate) fn try_ten(rt: &HostRuntime) -> anyhow::Result<()> {
         1,
     )
 }
+
+// Ten factors by the estimators and lists that are left: what a run comes to does not depend on the list, nor on the sizes of orders.
+pub(crate) fn try_other_lists(rt: &HostRuntime) -> anyhow::Result<()> {
+    let ten = turned(rt.alloc(), 10)?;
+    let longest = Longest::new(DistanceHeap::new());
+    plan(
+        rt,
+        "ten factors, longest, heap, orders of 65535",
+        &mut Planner::new(longest, SearchHeap::new()),
+        &ten,
+        65535,
+    )?;
+    let pair = Pair::new(DistanceHeap::new(), 0, 1);
+    plan(
+        rt,
+        "ten factors, pair, row, orders of 1",
+        &mut Planner::new(pair, Row::new()),
+        &ten,
+        1,
+    )?;
+    let longest = Longest::new(DistanceHeap::new());
+    let pair = Pair::new(DistanceHeap::new(), 0, 1);
+    plan(
+        rt,
+        "ten factors, greater, row, orders of 65535",
+        &mut Planner::new(Greater::new(longest, pair), Row::new()),
+        &ten,
+        65535,
+    )
+}
