@@ -1,5 +1,5 @@
 // The worked examples: what is to be said of each is proved, and then said.
-ghost use Rattle.trials.specs.Worked.{Worked};
+ghost use Rattle.samples.specs.Worked.{Worked};
 
 use samples::files::changed;
 use samples::trial::Trial;

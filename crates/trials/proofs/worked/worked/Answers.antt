@@ -1,4 +1,4 @@
-use Rattle.trials.proofs.Examples.{worked_examples}
+use Rattle.samples.proofs.Examples.{worked_examples}
 use Rattle.trials.proofs.worked.worked.Goals as goal
 
 pub returns : goal.returns

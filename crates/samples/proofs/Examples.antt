@@ -11,7 +11,7 @@ use Rattle.samples.specs.Samples.{labelled, ending}
 use Rattle.std.proofs.lemmas.Bool.Decides.{not_from_Decides}
 use Rattle.samples.proofs.Accepting.{ended, stopped_at_once, priced_decides}
 use Rattle.samples.proofs.Reading.{site_read, fit, unfit, costing, costless, linked, ranking_listed, freed, sample_read, dear_read}
-use Rattle.trials.specs.Worked.{Worked}
+use Rattle.samples.specs.Worked.{Worked}
 
 pub worked_examples : Worked
 worked_examples = record {

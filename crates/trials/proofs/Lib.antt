@@ -1,2 +1,0 @@
--- The proof of the worked examples.
-mod Examples

@@ -1,2 +1,0 @@
--- The statement on the sample files.
-pub mod Worked
