@@ -1,7 +1,7 @@
 // Whether a ranking may be relied on, and whether a state is under another by it.
-ghost use Rattle.std.specs.Prelude.{◌≡◌};
+ghost use Rattle.std.specs.Prelude.{◌≡◌, ℕ};
 ghost use Rattle.task.specs.Meaning.{meaning, state_of};
-ghost use Rattle.ranking.specs.First.{FirstError};
+ghost use Rattle.ranking.specs.First.{FirstError, Inside};
 ghost use Rattle.ranking.specs.Ranking.{under};
 ghost use Rattle.ranking.specs.Verdict.{Checked};
 ghost use Rattle.ranking.specs.Tables.{order};
@@ -20,11 +20,12 @@ pub(crate) struct Check<'a> {
 }
 
 // Checks each two facts of a factor, given one by one as the relation of the definitions takes them, in rising order of the factor and the two, up to the first error.
+// The check at a pair may count on it that both are facts of the factor, so it can index the tables.
 fn try_pairs<F: Fn(u8, u8, u8) -> Result<(), Refusal>>(
     task: &Task,
     check_at: F,
 ) -> Result<(), Refusal>
-    requires { F.IsAlwaysCallable check_at }
+    requires { (i a b : ℕ) → Inside (meaning task.now) i a b → F.pre check_at i a b }
     ensures { FirstError (meaning task.now) (F.post check_at) result }
 {
     for factor in 0..task.factors {

@@ -1,5 +1,5 @@
 // The reply rule: a fact has a reply to each transition of a fact that stands under it.
-ghost use Rattle.ranking.specs.First.{ReplyAt};
+ghost use Rattle.ranking.specs.First.{Inside, ReplyAt};
 ghost use Rattle.task.specs.Meaning.{meaning};
 ghost use Rattle.ranking.specs.Meaning.{relation};
 
@@ -9,9 +9,10 @@ use site::refusal::Refusal;
 
 impl Check<'_> {
     pub(crate) fn check_reply(&self, factor: u8, a: u8, b: u8) -> Result<(), Refusal>
+        requires { Inside (meaning self.now.task.now) factor a b }
         ensures { ReplyAt (meaning self.now.task.now) (relation self.now.ranking.now) factor a b result }
     {
-        if !self.ranking.ranks(factor, a, b) {
+        if !self.ranking.parts[factor as usize].rows[a as usize].facts[b as usize] {
             return Ok(());
         }
         for label in 0..self.task.labels + 1 {
