@@ -61,8 +61,12 @@ fn first_least<K: Key>(keys: &[Option<K>]) -> Option<usize>
 fn better<K: Key>(best: Option<(usize, K)>, number: usize, key: Option<K>) -> Option<(usize, K)>
     ensures { result ≡ better_of K.Key.sooner best number key }
 {
-    match key {
-        Some(key) if best.is_none_or(|(_, low)| key.precedes(&low)) => Some((number, key)),
-        _ => best,
+    let Some(key) = key else {
+        return best;
+    };
+    if best.is_none_or(|(_, low)| key.precedes(&low)) {
+        Some((number, key))
+    } else {
+        best
     }
 }
