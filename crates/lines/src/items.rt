@@ -1,5 +1,6 @@
-// What a line says, but for its end. It is put together without `write!`, whose contract does not say when it succeeds.
-ghost use Rattle.std.specs.Prelude.{◌≡◌, ◌+◌, ◌<◌, ◌≤◌, ◌++◌, length, codes};
+// What a line says, but for its end. It is put together without `write!`, whose contract does not say when it succeeds, in a text
+// that is lent, so that it is copied once.
+ghost use Rattle.std.specs.Prelude.{◌≡◌, [], ◌+◌, ◌<◌, ◌≤◌, ◌++◌, length, codes};
 ghost use Rattle.site.specs.Words.{place_text};
 ghost use Rattle.lines.specs.Lines.{row_limit, verdict_text, call_report_text};
 
@@ -18,47 +19,44 @@ fn append_number<I: Integer>(text: &mut ArrayString<ITEMS>, number: I)
     text.push_str(Buffer::new().format(number));
 }
 
-// A word and a number after it.
-pub(crate) fn count_items<I: Integer>(word: &str, number: I) -> ArrayString<ITEMS>
-    requires { length word.now + I.MAX_STR_LEN < row_limit }
-    ensures { result.bytes ≡ word.now ++ I.text number }
+// Writes a word and a number after it.
+pub(crate) fn write_count<I: Integer>(text: &mut ArrayString<ITEMS>, word: &str, number: I)
+    requires empty { text.old.bytes ≡ [] }
+    requires room { length word.now + I.MAX_STR_LEN < row_limit }
+    ensures { text.new.bytes ≡ word.now ++ I.text number }
 {
-    let mut text = ArrayString::new();
     text.push_str(word);
-    append_number(&mut text, number);
-    text
+    append_number(text, number);
 }
 
-// What the visit ends with.
-pub(crate) fn verdict_items(verdict: Verdict) -> ArrayString<ITEMS>
-    ensures { result.bytes ≡ codes "verdict " ++ verdict_text verdict }
+// Writes what the visit ends with.
+pub(crate) fn write_verdict(text: &mut ArrayString<ITEMS>, verdict: Verdict)
+    requires { text.old.bytes ≡ [] }
+    ensures { text.new.bytes ≡ codes "verdict " ++ verdict_text verdict }
 {
-    let mut text = ArrayString::new();
     text.push_str("verdict ");
     text.push_str(verdict.word());
-    text
 }
 
-// The refusal of a call. One of the planner's own has the layer `planner` and the place 0.
-pub(crate) fn report_items(report: CallReport) -> ArrayString<ITEMS>
-    ensures { result.bytes ≡ call_report_text report }
+// Writes the refusal of a call. One of the planner's own has the layer `planner` and the place 0.
+pub(crate) fn write_report(text: &mut ArrayString<ITEMS>, report: CallReport)
+    requires { text.old.bytes ≡ [] }
+    ensures { text.new.bytes ≡ call_report_text report }
 {
-    let mut text = ArrayString::new();
     text.push_str("refused ");
     match report {
         CallReport::File(report) => {
-            append_number(&mut text, report.number);
+            append_number(text, report.number);
             text.push(' ');
             text.push_str(report.layer.word());
             text.push(' ');
-            append_place(&mut text, report.place);
+            append_place(text, report.place);
         }
         CallReport::Own(number) => {
-            append_number(&mut text, number);
+            append_number(text, number);
             text.push_str(" planner 0");
         }
     }
-    text
 }
 
 // Appends the place, of at most 20 bytes: an offset, or a factor, two facts and a label.

@@ -1,14 +1,14 @@
 // The lines that a visit prints, each written into a row of bytes.
 #![tactic(auto)]
 
-ghost use Rattle.std.specs.Prelude.{◌≡◌, ◌<◌, ◌≤◌, ◌++◌, length, drop};
+ghost use Rattle.std.specs.Prelude.{◌≡◌, [], ◌<◌, ◌≤◌, ◌++◌, length, drop};
 ghost use Rattle.lines.specs.Lines.{row_limit, verdict_text, items_text, line_text};
 
 mod items;
 
 use arrayvec::ArrayString;
 use astar::refusal::CallReport;
-use items::{count_items, report_items, verdict_items};
+use items::{write_count, write_report, write_verdict};
 
 // How many bytes a row has: no line is longer.
 pub const ROW: usize = 64;
@@ -65,25 +65,27 @@ impl Line {
         ensures fits { result ≤ row_limit }
         ensures bytes { row.new ≡ line_text self ++ drop (length (line_text self)) row.old }
     {
-        let items = self.items();
+        let mut items = ArrayString::new();
+        self.write_items(&mut items);
         let end = items.len();
         row[end] = b'\n';
         row[..end].copy_from_slice(items.as_bytes());
         end + 1
     }
 
-    // What the line says, but for its end.
-    fn items(self) -> ArrayString<ITEMS>
-        ensures { result.bytes ≡ items_text self }
+    // Writes what the line says, but for its end, into a text that is empty.
+    fn write_items(self, text: &mut ArrayString<ITEMS>)
+        requires { text.old.bytes ≡ [] }
+        ensures { text.new.bytes ≡ items_text self }
     {
         match self {
-            Line::Verdict(verdict) => verdict_items(verdict),
-            Line::Cost(cost) => count_items("cost ", cost),
-            Line::Step(label) => count_items("step ", label),
-            Line::Taken(taken) => count_items("taken ", taken),
-            Line::Entries(entries) => count_items("entries ", entries),
-            Line::Tried(tried) => count_items("tried ", tried),
-            Line::Refused(report) => report_items(report),
+            Line::Verdict(verdict) => write_verdict(text, verdict),
+            Line::Cost(cost) => write_count(text, "cost ", cost),
+            Line::Step(label) => write_count(text, "step ", label),
+            Line::Taken(taken) => write_count(text, "taken ", taken),
+            Line::Entries(entries) => write_count(text, "entries ", entries),
+            Line::Tried(tried) => write_count(text, "tried ", tried),
+            Line::Refused(report) => write_report(text, report),
         }
     }
 }
