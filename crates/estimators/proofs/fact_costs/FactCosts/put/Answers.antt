@@ -17,5 +17,5 @@ returns c =
     let h : c.args.factor < length s.columns = search rules in
     record {
       given = λ x l. ap (λ (column : List (Option ℕ)). cell (slice_set s.columns c.args.factor column) c.args.factor x) c.copy_from_slice.ensures.after ∙ (cell_same s.columns c.args.factor (take fact_limit c.args.table.now) h x ∙ get_or-take fact_limit c.args.table.now x None l);
-      others = λ j x ne. ap (λ (column : List (Option ℕ)). cell (slice_set s.columns c.args.factor column) j x) c.copy_from_slice.ensures.after ∙ cell_other s.columns c.args.factor (take fact_limit c.args.table.now) h j x ne;
+      others = λ j x ne. ap (λ (column : List (Option ℕ)). cell (slice_set s.columns c.args.factor column) j x) c.copy_from_slice.ensures.after ∙ cell_other s.columns c.args.factor (take fact_limit c.args.table.now) j x ne;
     }
